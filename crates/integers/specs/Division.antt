@@ -1,0 +1,87 @@
+-- Division of whole numbers by a factor of either sign, rounded down and rounded up.
+use mathlib.Core.Path.{_≡_, refl}
+use mathlib.Core.Logic.{_↔_}
+use Prim.Native.Nat.{ℕ, zero, suc, _+_, _*_, _/_, _≤_, _<_}
+use native.Mathlib.Omega.{arith}
+use native.Mathlib.Nat.{le-div-iff-mul-le, div-lt-iff-lt-mul, div-le-self, zero-lt-suc}
+use lib.IntN.{ℤ, pos, negsuc, negℤ, _*ℤ_}
+use lib.Signed.{_≤ℤ_}
+use Rattle.integers.specs.Order.{up, dn, ints, le-in, le-out, up-neg, dn-neg, mul-up, mul-dn, mul-neg, neg-le, le-neg}
+
+-- n divided by m, not 0, rounded down
+unfoldable pub floorBy : ℤ → ℕ → ℤ
+floorBy (pos n) m = pos (n / m)
+floorBy (negsuc n) m = negsuc (n / m)
+
+-- n divided by f, not 0, rounded down
+unfoldable pub floor : ℤ → ℤ → ℤ
+floor n (pos m) = floorBy n m
+floor n (negsuc m) = floorBy (negℤ n) (suc m)
+
+-- n divided by f, not 0, rounded up
+unfoldable pub ceiling : ℤ → ℤ → ℤ
+ceiling n f = negℤ (floor (negℤ n) f)
+
+-- the quotient rounded down is at least x just when x times the divisor is at most the dividend
+pub floorBy-le : (n : ℤ) (m : ℕ) (x : ℤ) → zero < m → (x ≤ℤ floorBy n m) ↔ ((pos m *ℤ x) ≤ℤ n)
+unfolding floorBy
+floorBy-le (pos n) m (pos x) h =
+    let e = le-div-iff-mul-le {k = m} {x = x} {y = n} h in
+    (λ k. let g = e .0 (omega ints) in omega ints, λ k. let g = e .1 (omega ints) in omega ints)
+floorBy-le (pos n) m (negsuc x) h = omega (ints, up-neg (pos (m * suc x)), dn-neg (pos (m * suc x)))
+floorBy-le (negsuc n) m (pos x) h = omega ints
+floorBy-le (negsuc n) m (negsuc x) h =
+    let u = up-neg (pos (m * suc x)) in
+    let d = dn-neg (pos (m * suc x)) in
+    let e = div-lt-iff-lt-mul {k = m} {x = n} {y = suc x} h in
+    (λ k. let g = e .0 (omega ints) in omega ints, λ k. let g = e .1 (omega ints) in omega ints)
+
+floorBy-size : (n : ℤ) (m : ℕ) → up (floorBy n m) + dn (floorBy n m) ≤ up n + dn n
+unfolding floorBy
+floorBy-size (pos n) m = omega (arith, div-le-self n m)
+floorBy-size (negsuc n) m = omega (arith, div-le-self n m)
+
+-- the same for a divisor of either sign
+pub floor-pos : (n : ℤ) (m : ℕ) (x : ℤ) → zero < m → (x ≤ℤ floor n (pos m)) ↔ ((pos m *ℤ x) ≤ℤ n)
+unfolding floor
+floor-pos n m x h = floorBy-le n m x h
+
+pub floor-neg : (n : ℤ) (m : ℕ) (x : ℤ) → (x ≤ℤ floor n (negsuc m)) ↔ (n ≤ℤ (negsuc m *ℤ x))
+unfolding floor
+floor-neg n m x =
+    let e = floorBy-le (negℤ n) (suc m) x (zero-lt-suc m) in
+    let a = mul-up (pos (suc m)) x in
+    let b = mul-dn (pos (suc m)) x in
+    let c = mul-up (negsuc m) x in
+    let d = mul-dn (negsuc m) x in
+    let u = up-neg n in
+    let v = dn-neg n in
+    (λ k. let g = e .0 k in omega ints, λ k. e .1 (omega ints))
+
+pub ceiling-pos : (n : ℤ) (m : ℕ) (x : ℤ) → zero < m → (ceiling n (pos m) ≤ℤ x) ↔ (n ≤ℤ (pos m *ℤ x))
+unfolding ceiling
+ceiling-pos n m x h =
+    let e = floor-pos (negℤ n) m (negℤ x) h in
+    let t = neg-le (floor (negℤ n) (pos m)) x in
+    let g = rw (mul-neg (pos m) x) at e in
+    let k = le-neg (pos m *ℤ x) n in
+    (λ c. k .0 (g .0 (t .0 c)), λ c. t .1 (g .1 (k .1 c)))
+
+pub ceiling-neg : (n : ℤ) (m : ℕ) (x : ℤ) → (ceiling n (negsuc m) ≤ℤ x) ↔ ((negsuc m *ℤ x) ≤ℤ n)
+unfolding ceiling
+ceiling-neg n m x =
+    let e = floor-neg (negℤ n) m (negℤ x) in
+    let t = neg-le (floor (negℤ n) (negsuc m)) x in
+    let g = rw (mul-neg (negsuc m) x) at e in
+    let k = le-neg n (negsuc m *ℤ x) in
+    (λ c. k .0 (g .0 (t .0 c)), λ c. t .1 (g .1 (k .1 c)))
+
+-- a quotient is no further from zero than its dividend
+pub floor-size : (n f : ℤ) → up (floor n f) + dn (floor n f) ≤ up n + dn n
+unfolding floor
+floor-size n (pos m) = floorBy-size n m
+floor-size n (negsuc m) = omega (arith, floorBy-size (negℤ n) (suc m), up-neg n, dn-neg n)
+
+pub ceiling-size : (n f : ℤ) → up (ceiling n f) + dn (ceiling n f) ≤ up n + dn n
+unfolding ceiling
+ceiling-size n f = let q = floor (negℤ n) f in omega (arith, floor-size (negℤ n) f, up-neg q, dn-neg q, up-neg n, dn-neg n)

@@ -1,0 +1,5 @@
+pub mod Order
+pub mod Range
+pub mod Division
+pub mod Inverse
+pub mod LittleEndian

@@ -1,0 +1,132 @@
+-- Ranges of whole numbers: definitions, and the laws that callers use in their place.
+use mathlib.Core.Path.{_≡_, refl}
+use mathlib.Core.Logic.{_↔_}
+use mathlib.Core.Bool.{Bool, true, false, cond, _&&_}
+use Prim.Native.Nat.{ℕ, suc, _+_, _≤_, _<_}
+use native.Mathlib.Omega.{arith}
+use lib.Dec.{T}
+use lib.IntN.{ℤ, pos, negsuc, negℤ, _+ℤ_, _-ℤ_}
+use lib.Signed.{leZ, ltZ, _≤ℤ_}
+use mir.Facts.{and-yes, yes-and}
+use Rattle.integers.specs.declared.Range.{Range}
+use Rattle.integers.specs.Order.{up, dn, ints, le-in, le-out, leZ-true, leZ-false, le-leZ, lt-leZ, ltZ-true, add-parts, sub-parts}
+
+-- the smaller of two
+unfoldable pub smaller : ℤ → ℤ → ℤ
+smaller a b = cond (leZ a b) a b
+
+-- the larger of two
+unfoldable pub larger : ℤ → ℤ → ℤ
+larger a b = cond (leZ a b) b a
+
+-- x is in the range, both bounds included
+unfoldable pub contains : Range → ℤ → Bool
+contains r x = leZ (r .low) x && leZ x (r .high)
+
+-- the range holds nothing
+unfoldable pub vacant : Range → Bool
+vacant r = ltZ (r .high) (r .low)
+
+-- what is in both ranges
+unfoldable pub meet : Range → Range → Range
+meet r q = record { low = larger (r .low) (q .low); high = smaller (r .high) (q .high) }
+
+-- how many whole numbers the range holds
+unfoldable pub size : Range → ℕ
+size r = up (r .high -ℤ r .low +ℤ pos 1)
+
+-- z is within n of zero, on either side
+pub record Within (n : ℕ) (z : ℤ) : Type 0 where
+  pub above : negℤ (pos n) ≤ℤ z
+  pub below : z ≤ℤ pos n
+
+-- a Bool that is true, as the proposition T
+pub T-true : (b : Bool) → b ≡ true → T b
+T-true true e = tt
+T-true false e = let z : _≡_ {A = ℕ} 0 1 = cc in absurd (omega arith)
+
+pub true-T : (b : Bool) → T b → b ≡ true
+true-T true t = refl
+true-T false t = absurd t
+
+pub leZ-le : (a b : ℤ) → T (leZ a b) ↔ (a ≤ℤ b)
+leZ-le a b = (λ t. record { le = t }, λ h. h .le)
+
+-- membership by the two bounds
+pub contains-le : (r : Range) (x : ℤ) → T (contains r x) ↔ ((r .low ≤ℤ x) × (x ≤ℤ r .high))
+unfolding contains
+contains-le r x = (to, from)
+  where
+    to : T (leZ (r .low) x && leZ x (r .high)) → (r .low ≤ℤ x) × (x ≤ℤ r .high)
+    to t = let h = and-yes (leZ (r .low) x) (leZ x (r .high)) t in (record { le = h .0 }, record { le = h .1 })
+
+    from : (r .low ≤ℤ x) × (x ≤ℤ r .high) → T (leZ (r .low) x && leZ x (r .high))
+    from h = yes-and (leZ (r .low) x) (leZ x (r .high)) (h .0 .le) (h .1 .le)
+
+pub smaller-le : (a b x : ℤ) → (x ≤ℤ smaller a b) ↔ ((x ≤ℤ a) × (x ≤ℤ b))
+unfolding smaller
+smaller-le a b x = go (leZ a b) refl
+  where
+    go : (t : Bool) → leZ a b ≡ t → (x ≤ℤ cond t a b) ↔ ((x ≤ℤ a) × (x ≤ℤ b))
+    go true e = omega ints
+    go false e = omega ints
+
+pub larger-le : (a b x : ℤ) → (larger a b ≤ℤ x) ↔ ((a ≤ℤ x) × (b ≤ℤ x))
+unfolding larger
+larger-le a b x = go (leZ a b) refl
+  where
+    go : (t : Bool) → leZ a b ≡ t → (cond t b a ≤ℤ x) ↔ ((a ≤ℤ x) × (b ≤ℤ x))
+    go true e = omega ints
+    go false e = omega ints
+
+-- the intersection holds what both hold
+pub meet-contains : (r q : Range) (x : ℤ) → T (contains (meet r q) x) ↔ (T (contains r x) × T (contains q x))
+unfolding meet
+meet-contains r q x = (to, from)
+  where
+    to : T (contains (meet r q) x) → T (contains r x) × T (contains q x)
+    to t =
+        let h = contains-le (meet r q) x .0 t in
+        let l = larger-le (r .low) (q .low) x .0 (h .0) in
+        let u = smaller-le (r .high) (q .high) x .0 (h .1) in
+        (contains-le r x .1 (l .0, u .0), contains-le q x .1 (l .1, u .1))
+
+    from : T (contains r x) × T (contains q x) → T (contains (meet r q) x)
+    from (t, k) =
+        let h = contains-le r x .0 t in
+        let g = contains-le q x .0 k in
+        contains-le (meet r q) x .1 (larger-le (r .low) (q .low) x .1 (h .0, g .0), smaller-le (r .high) (q .high) x .1 (h .1, g .1))
+
+-- a vacant range holds nothing, and any other holds its low bound
+pub vacant-none : (r : Range) (x : ℤ) → T (vacant r) → T (contains r x) → ⊥
+unfolding vacant
+vacant-none r x v t = let h = contains-le r x .0 t in let e = true-T (ltZ (r .high) (r .low)) v in omega ints
+
+pub vacant-not : (r : Range) → vacant r ≡ false → T (contains r (r .low))
+unfolding vacant
+vacant-not r e = contains-le r (r .low) .1 (omega ints, omega ints)
+
+-- the size of a range that is not vacant, and that of a vacant one
+pub size-some : (r : Range) → r .low ≤ℤ r .high → size r + (up (r .low) + dn (r .high)) ≡ suc (up (r .high) + dn (r .low))
+unfolding size
+size-some r h = one-way (r .high -ℤ r .low +ℤ pos 1) (add-parts (r .high -ℤ r .low) (pos 1)) (sub-parts (r .high) (r .low)) (le-in (r .low) (r .high) h)
+  where
+    one-way : (z : ℤ) → up z + (dn (r .high -ℤ r .low) + dn (pos 1)) ≡ dn z + (up (r .high -ℤ r .low) + up (pos 1))
+        → up (r .high -ℤ r .low) + (dn (r .high) + up (r .low)) ≡ dn (r .high -ℤ r .low) + (up (r .high) + dn (r .low))
+        → up (r .low) + dn (r .high) ≤ up (r .high) + dn (r .low)
+        → up z + (up (r .low) + dn (r .high)) ≡ suc (up (r .high) + dn (r .low))
+    one-way (pos n) a b c = omega arith
+    one-way (negsuc n) a b c = absurd (omega arith)
+
+pub size-none : (r : Range) → T (vacant r) → size r ≡ 0
+unfolding size vacant
+size-none r v =
+    one-way (r .high -ℤ r .low +ℤ pos 1) (add-parts (r .high -ℤ r .low) (pos 1)) (sub-parts (r .high) (r .low))
+    (ltZ-true (r .high) (r .low) (true-T (ltZ (r .high) (r .low)) v))
+  where
+    one-way : (z : ℤ) → up z + (dn (r .high -ℤ r .low) + dn (pos 1)) ≡ dn z + (up (r .high -ℤ r .low) + up (pos 1))
+        → up (r .high -ℤ r .low) + (dn (r .high) + up (r .low)) ≡ dn (r .high -ℤ r .low) + (up (r .high) + dn (r .low))
+        → up (r .high) + dn (r .low) < up (r .low) + dn (r .high)
+        → up z ≡ 0
+    one-way (pos n) a b c = omega arith
+    one-way (negsuc n) a b c = refl
