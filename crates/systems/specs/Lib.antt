@@ -1,3 +1,4 @@
 pub mod Search
+pub mod Lists
 pub mod System
 pub mod Exploration

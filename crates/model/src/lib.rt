@@ -1,0 +1,13 @@
+// What a sheet and a chart mean: the definitions and theorems stand in specs/.
+
+// A rule for one counter: the new value is the offset, or factor * the old value of the source counter + offset.
+pub enum Rule {
+    Set {
+        offset: i64,
+    },
+    Carry {
+        source: usize,
+        factor: i64,
+        offset: i64,
+    },
+}
