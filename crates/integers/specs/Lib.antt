@@ -3,3 +3,6 @@ pub mod Range
 pub mod Division
 pub mod Inverse
 pub mod LittleEndian
+pub mod Bits
+pub mod Machine
+pub mod Quotient

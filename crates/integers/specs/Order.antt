@@ -180,5 +180,20 @@ pub fits-out : (z : ℤ) → (up z < dn z + 2 ^ 63) × (dn z ≤ up z + 2 ^ 63) 
 fits-out (pos n) h = record { sfits = omega arith }
 fits-out (negsuc n) h = record { sfits = omega arith }
 
+pub fits-small : (z : ℤ) → up z + dn z < 2 ^ 63 → SFits w64 z
+fits-small (pos n) h = record { sfits = omega arith }
+fits-small (negsuc n) h = record { sfits = omega arith }
+
+-- how far a sum and a difference lie from zero
+pub add-size : (a b : ℤ) → up (a +ℤ b) + dn (a +ℤ b) ≤ up a + dn a + (up b + dn b)
+add-size a b = go (a +ℤ b) (add-parts a b)
+  where
+    go : (z : ℤ) → up z + (dn a + dn b) ≡ dn z + (up a + up b) → up z + dn z ≤ up a + dn a + (up b + dn b)
+    go (pos n) e = omega arith
+    go (negsuc n) e = omega arith
+
+pub sub-size : (a b : ℤ) → up (a -ℤ b) + dn (a -ℤ b) ≤ up a + dn a + (up b + dn b)
+sub-size a b = omega (arith, add-size a (negℤ b), up-neg b, dn-neg b)
+
 pub ruleset ints =
     (arith, le-in, le-out, lt-in, lt-out, eq-in, eq-out, fits-size, ltZ-true, ltZ-false, leZ-true, leZ-false, lt-ltZ, le-ltZ, le-leZ, lt-leZ)

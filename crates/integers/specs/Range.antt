@@ -9,7 +9,7 @@ use lib.IntN.{ℤ, pos, negsuc, negℤ, _+ℤ_, _-ℤ_}
 use lib.Signed.{leZ, ltZ, _≤ℤ_}
 use mir.Facts.{and-yes, yes-and}
 use Rattle.integers.specs.declared.Range.{Range}
-use Rattle.integers.specs.Order.{up, dn, ints, le-in, le-out, leZ-true, leZ-false, le-leZ, lt-leZ, ltZ-true, add-parts, sub-parts}
+use Rattle.integers.specs.Order.{up, dn, ints, le-in, le-out, leZ-true, leZ-false, le-leZ, lt-leZ, ltZ-true, add-parts, sub-parts, up-neg, dn-neg}
 
 -- the smaller of two
 unfoldable pub smaller : ℤ → ℤ → ℤ
@@ -39,6 +39,17 @@ size r = up (r .high -ℤ r .low +ℤ pos 1)
 pub record Within (n : ℕ) (z : ℤ) : Type 0 where
   pub above : negℤ (pos n) ≤ℤ z
   pub below : z ≤ℤ pos n
+
+pub within-size : {n : ℕ} {z : ℤ} → Within n z → up z + dn z ≤ n
+within-size {n} {z = pos k} w = omega (ints, w .below)
+within-size {n} {z = negsuc k} w = omega (ints, w .above, up-neg (pos n), dn-neg (pos n))
+
+pub within-out : (n : ℕ) (z : ℤ) → up z + dn z ≤ n → Within n z
+within-out n z h =
+    record {
+      above = le-out (negℤ (pos n)) z (omega (arith, up-neg (pos n), dn-neg (pos n)));
+      below = le-out z (pos n) (omega arith);
+    }
 
 -- a Bool that is true, as the proposition T
 pub T-true : (b : Bool) → b ≡ true → T b
@@ -130,3 +141,8 @@ size-none r v =
         → up z ≡ 0
     one-way (pos n) a b c = omega arith
     one-way (negsuc n) a b c = refl
+
+-- both bounds are within n of zero
+pub record RangeWithin (n : ℕ) (r : Range) : Type 0 where
+  pub low-within : Within n (r .low)
+  pub high-within : Within n (r .high)

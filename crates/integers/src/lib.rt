@@ -1,4 +1,8 @@
-// Whole numbers and ranges of them.
+// Whole numbers: division rounded up and down, the inverse of a carry rule, ranges, little-endian numbers in bytes.
+// Every function here is called by sister crates alone: it asks what it needs, and its callers have refused the rest.
+pub mod bytes;
+pub mod division;
+pub mod ranges;
 
 // The whole numbers from low to high, both included; none where low is above high.
 pub struct Range {
