@@ -2,3 +2,12 @@ pub mod Search
 pub mod Lists
 pub mod System
 pub mod Exploration
+pub mod Laws
+pub mod Alike
+pub mod Counting
+pub mod Moore
+pub mod Pigeonhole
+pub mod Places
+pub mod Explored
+pub mod LockStep
+pub mod Quotient

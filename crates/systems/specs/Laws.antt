@@ -1,0 +1,169 @@
+-- Laws of the searches over the numbers below a bound.
+use Prim.Native.Nat.{ℕ, zero, suc, _≤_, _<_}
+use native.Mathlib.Nat.{not-suc-le-zero, le-of-suc-le-suc, eq-or-lt-of-le}
+use native.Mathlib.Omega.{arith}
+use mathlib.Core.Path.{_≡_, refl, sym, ap, subst, _∙_}
+use mathlib.Core.Logic.{_↔_, _⊎_, inl, inr, ⊎-elim}
+use mathlib.Core.Bool.{Bool, true, false, _||_, _&&_}
+use lib.Dec.{T}
+use Rattle.systems.specs.Search.{run, any, all, least}
+
+-- a test passes or fails
+pub told : (b : Bool) → (b ≡ true) ⊎ (b ≡ false)
+told true = inl refl
+told false = inr refl
+
+-- a test that passes is true, and back
+pub is-true : (b : Bool) → T b → b ≡ true
+is-true true t = refl
+is-true false t = absurd t
+
+pub true-is : (b : Bool) → b ≡ true → T b
+true-is b e = subst T (sym e) tt
+
+pub not-true : (b : Bool) → b ≡ false → T b → ⊥
+not-true b e t = subst T e t
+
+pub is-false : (b : Bool) → (T b → ⊥) → b ≡ false
+is-false true h = absurd (h tt)
+is-false false h = refl
+
+-- two tests that imply one another are one
+pub same-test : (a b : Bool) → T a ↔ T b → a ≡ b
+same-test true true e = refl
+same-test true false e = absurd (e .0 tt)
+same-test false true e = absurd (e .1 tt)
+same-test false false e = refl
+
+pub or-cases : (a b : Bool) → T (a || b) → T a ⊎ T b
+or-cases true b t = inl tt
+or-cases false b t = inr t
+
+pub or-left : (a b : Bool) → T a → T (a || b)
+or-left true b t = tt
+or-left false b t = absurd t
+
+pub or-right : (a b : Bool) → T b → T (a || b)
+or-right true b t = tt
+or-right false b t = t
+
+-- a conjunction is a pair
+pub both : (a b : Bool) → T (a && b) ↔ (T a × T b)
+both true b = (λ t. (tt, t), λ t. t .1)
+both false b = (λ t. absurd t, λ t. t .0)
+
+-- a number below n + 1 is n or below n
+pub below-suc : {i n : ℕ} → i < suc n → (i ≡ n) ⊎ (i < n)
+below-suc h = eq-or-lt-of-le (le-of-suc-le-suc h)
+
+any-out : (p : ℕ → Bool) (n : ℕ) → T (any p n) → (i : ℕ) × (i < n) × T (p i)
+unfolding run
+any-out p zero t = absurd t
+any-out p (suc n) t = ⊎-elim (λ l. let (i, h, q) = any-out p n l in (i, omega arith, q)) (λ r. (n, omega arith, r)) (or-cases (any p n) (p n) t)
+
+any-in : (p : ℕ → Bool) (n i : ℕ) → i < n → T (p i) → T (any p n)
+unfolding run
+any-in p zero i h t = absurd (not-suc-le-zero h)
+any-in p (suc n) i h t =
+    ⊎-elim (λ e. or-right (any p n) (p n) (subst (λ (k : ℕ). T (p k)) e t)) (λ l. or-left (any p n) (p n) (any-in p n i l t)) (below-suc h)
+
+-- a search among the numbers below n succeeds exactly where one of them passes
+pub any-true : (p : ℕ → Bool) (n : ℕ) → T (any p n) ↔ ((i : ℕ) × (i < n) × T (p i))
+any-true p n = (any-out p n, λ f. any-in p n (f .0) (f .1) (f .2))
+
+all-out : (p : ℕ → Bool) (n : ℕ) → T (all p n) → (i : ℕ) → i < n → T (p i)
+unfolding run
+all-out p zero t i h = absurd (not-suc-le-zero h)
+all-out p (suc n) t i h =
+    let (l, r) = both (all p n) (p n) .0 t in
+    ⊎-elim (λ e. subst (λ (k : ℕ). T (p k)) (sym e) r) (λ b. all-out p n l i b) (below-suc h)
+
+all-in : (p : ℕ → Bool) (n : ℕ) → ((i : ℕ) → i < n → T (p i)) → T (all p n)
+unfolding run
+all-in p zero f = tt
+all-in p (suc n) f = both (all p n) (p n) .1 (all-in p n (λ i h. f i (omega arith)), f n (omega arith))
+
+-- a condition on the numbers below n holds exactly where it holds of each
+pub all-true : (p : ℕ → Bool) (n : ℕ) → T (all p n) ↔ ((i : ℕ) → i < n → T (p i))
+all-true p n = (all-out p n, all-in p n)
+
+-- tests that agree below n have the same search and the same condition
+pub run-ext : {A : Type 0} (z : A) (op : A → A → A) (f g : ℕ → A) (n : ℕ) → ((i : ℕ) → i < n → f i ≡ g i) → run z op f n ≡ run z op g n
+unfolding run
+run-ext z op f g zero e = refl
+run-ext z op f g (suc n) e =
+    let r = run-ext z op f g n (λ i h. e i (omega arith)) in
+    let l = e n (omega arith) in
+    cc
+
+pub least-here : (p : ℕ → Bool) (n : ℕ) → p zero ≡ true → least p (suc n) ≡ zero
+unfolding least
+least-here p n e = rw (e, least)
+
+pub least-later : (p : ℕ → Bool) (n : ℕ) → p zero ≡ false → least p (suc n) ≡ suc (least (λ i. p (suc i)) n)
+unfolding least
+least-later p n e = rw (e, least)
+
+-- the least is determined: what is at most n, passes where it is below n, and has nothing below it that passes
+pub least-is : (p : ℕ → Bool) (n k : ℕ) → k ≤ n → (k < n → T (p k)) → ((i : ℕ) → i < k → T (p i) → ⊥) → least p n ≡ k
+unfolding least
+least-is p zero k h t b = omega arith
+least-is p (suc n) zero h t b = least-here p n (is-true (p zero) (t (omega arith)))
+least-is p (suc n) (suc k) h t b =
+    least-later p n (is-false (p zero) (b zero (omega arith)))
+    ∙ ap suc (least-is (λ i. p (suc i)) n k (le-of-suc-le-suc h) (λ l. t (omega arith)) (λ i l. b (suc i) (omega arith)))
+
+-- what the least of a search is
+pub record Least (p : ℕ → Bool) (n k : ℕ) : Type 0 where
+  pub le : k ≤ n
+  pub passes : k < n → T (p k)
+  pub first : (i : ℕ) → i < k → T (p i) → ⊥
+
+pub least-least : (p : ℕ → Bool) (n : ℕ) → Least p n (least p n)
+unfolding least
+least-least p zero = record { le = omega arith; passes = λ h. absurd (not-suc-le-zero h); first = λ i h t. not-suc-le-zero h }
+least-least p (suc n) = ⊎-elim here (later (least-least (λ i. p (suc i)) n)) (told (p zero))
+  where
+    here : p zero ≡ true → Least p (suc n) (least p (suc n))
+    here e = subst (Least p (suc n)) (sym (least-here p n e)) (record { le = omega arith; passes = λ h. true-is (p zero) e; first = λ i h t. not-suc-le-zero h })
+
+    first : (m : ℕ) → p zero ≡ false → Least (λ i. p (suc i)) n m → (i : ℕ) → i < suc m → T (p i) → ⊥
+    first m e r zero h t = not-true (p zero) e t
+    first m e r (suc i) h t = r .first i (le-of-suc-le-suc h) t
+
+    later : Least (λ i. p (suc i)) n (least (λ i. p (suc i)) n) → p zero ≡ false → Least p (suc n) (least p (suc n))
+    later r e =
+        subst
+        (Least p (suc n))
+        (sym (least-later p n e))
+        (record { le = omega arith; passes = λ h. r .passes (le-of-suc-le-suc h); first = first (least (λ i. p (suc i)) n) e r })
+
+-- a search that something below n passes ends below n
+pub least-lt : (p : ℕ → Bool) (n i : ℕ) → i < n → T (p i) → least p n < n
+least-lt p n i h t = ⊎-elim (λ e. absurd (least-least p n .first i (omega arith) t)) (λ l. l) (eq-or-lt-of-le (least-least p n .le))
+
+-- tests that agree below n have the same least
+pub least-ext : (p q : ℕ → Bool) (n : ℕ) → ((i : ℕ) → i < n → T (p i) ↔ T (q i)) → least p n ≡ least q n
+least-ext p q n e =
+    let r = least-least q n in
+    let b = r .le in
+    least-is p n (least q n) b (λ h. e (least q n) h .1 (r .passes h)) (λ i h t. r .first i h (e i (omega arith) .0 t))
+
+-- a Bool test of an equivalence of the numbers below n
+pub record EquivalenceBelow (n : ℕ) (q : ℕ → ℕ → Bool) : Type 0 where
+  pub reflexive : (i : ℕ) → i < n → T (q i i)
+  pub symmetric : (i j : ℕ) → i < n → j < n → T (q i j) → T (q j i)
+  pub transitive : (i j k : ℕ) → i < n → j < n → k < n → T (q i j) → T (q j k) → T (q i k)
+
+-- the least number equivalent to i is the same as that for j exactly where i and j are equivalent
+pub least-equivalent : (q : ℕ → ℕ → Bool) (n : ℕ) → EquivalenceBelow n q → (i j : ℕ) → i < n → j < n → (least (q i) n ≡ least (q j) n) ↔ T (q i j)
+least-equivalent q n E i j hi hj = (
+  λ e.
+      let k = least (q i) n in
+      let h : least (q i) n < n = least-lt (q i) n i hi (E .reflexive i hi) in
+      let a = least-least (q i) n .passes h in
+      let h′ : least (q j) n < n = omega arith in
+      let b : T (q j (least (q i) n)) = subst (λ (m : ℕ). T (q j m)) (sym e) (least-least (q j) n .passes h′) in
+      E .transitive i (least (q i) n) j hi h hj a (E .symmetric j (least (q i) n) hj h b),
+  λ t. least-ext (q i) (q j) n (λ k h. (λ u. E .transitive j i k hj hi h (E .symmetric i j hi hj t) u, λ u. E .transitive i j k hi hj h t u)),
+)
