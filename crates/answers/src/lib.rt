@@ -1,0 +1,19 @@
+// What the public functions answer. Refusal numbers and what each returns are those of document 01's table "Turned back".
+
+// A check, or a stage of one: it passed, or it was refused with a number and what the table says is returned.
+pub enum Checked {
+    Fine,
+    Refused { number: u8, returned: usize },
+}
+
+// How a reading ended: all actions were taken, or the action at an index was barred.
+pub enum Ending {
+    Whole,
+    Barred { index: usize },
+}
+
+// A run: how many labels were written and how the reading ended, or a refusal.
+pub enum Ran {
+    Done { labels: usize, ending: Ending },
+    Refused { number: u8, returned: usize },
+}
