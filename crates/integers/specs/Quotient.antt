@@ -1,15 +1,16 @@
 -- The machine's division, rounded toward zero, and the laws by which the code's floor and ceiling meet their definitions.
-use mathlib.Core.Path.{_≡_, refl, ap, ap₂}
+use mathlib.Core.Path.{_≡_, refl, sym, ap₂, subst}
 use mathlib.Core.Bool.{Bool, true, false}
 use Prim.Native.Nat.{ℕ, zero, suc, _+_, _/_, _^_, _≤_, _<_}
 use native.Mathlib.Omega.{arith}
 use native.Mathlib.Nat.{div-le-self}
-use lib.IntN.{ℤ, pos, negsuc, negℤ, _+ℤ_, _-ℤ_}
-use lib.Signed.{leZ, ltZ, quotZ, _≤ℤ_, _<ℤ_}
+use lib.IntN.{ℤ, pos, negsuc, natAbs, negℤ, _+ℤ_, _-ℤ_}
+use lib.Dec.{T}
+use lib.Signed.{leZ, ltZ, nonNeg, quotZ, _≤ℤ_, _<ℤ_}
 use mir.Syntax.{w64}
 use mir.Val.{SFits, ofZ}
 use Rattle.integers.specs.declared.Range.{Range}
-use Rattle.integers.specs.Order.{up, dn, ints, le-in, eq-out, fits-small, sub-size, up-neg, dn-neg, sub-parts, neg-neg, lt-out, ltZ-false, leZ-false}
+use Rattle.integers.specs.Order.{up, dn, ints, le-in, eq-out, fits-small, sub-size, up-neg, dn-neg, sub-parts, neg-neg, lt-out, ltZ-true, ltZ-false, leZ-false}
 use Rattle.integers.specs.Range.{Within, RangeWithin, within-size, within-out}
 use Rattle.integers.specs.Division.{floor, floorBy, ceiling, floor-size, ceiling-size}
 use Rattle.integers.specs.Inverse.{inverse}
@@ -115,10 +116,40 @@ offset-within {z} {b} w v = within-out 1000000000 (z -ℤ b) (omega (arith, sub-
 pub offset-fits : {z b : ℤ} → Within 1000000 z → Within 200000000 b → SFits w64 (z -ℤ b)
 offset-fits {z} {b} w v = fits-small (z -ℤ b) (omega (arith, sub-size z b, within-size w, within-size v))
 
-pub narrower : {z : ℤ} → Within 100 z → Within 1000000000 z
-narrower {z} w = within-out 1000000000 z (omega (arith, within-size w))
-
 pub minus-floor-fits : (n f : ℤ) → Within 1000000000 n → SFits w64 (pos 0 -ℤ floor (pos 0 -ℤ n) f)
 minus-floor-fits n f w =
     let q = floor (pos 0 -ℤ n) f in
     fits-small (pos 0 -ℤ q) (omega (arith, sub-size (pos 0) q, floor-size (pos 0 -ℤ n) f, sub-size (pos 0) n, within-size w))
+
+-- how a negative number's digits are found: one less than its distance from zero fits and is not negative
+pub record Natural (z : ℤ) : Type 0 where
+  pub fits : SFits w64 z
+  pub natural : T (nonNeg z)
+  pub small : natAbs z < 2 ^ 63
+
+pub distance-natural : (z : ℤ) → SFits w64 z → ltZ z (pos 0) ≡ true → Natural (negsuc 0 -ℤ z)
+distance-natural (pos n) f e = absurd (omega (arith, ltZ-true (pos n) (pos 0) e))
+distance-natural (negsuc n) f e = subst Natural (sym (below-zero n)) (record { fits = record { sfits = f .sfits }; natural = tt; small = f .sfits })
+
+pub number-natural : (z : ℤ) → SFits w64 z → ltZ z (pos 0) ≡ false → Natural z
+number-natural (pos n) f e = record { fits = f; natural = tt; small = f .sfits }
+number-natural (negsuc n) f e = false-true (sym e)
+
+-- a test against both bounds, as the machine makes it
+pub tested-within : (n : ℕ) (z : ℤ) → n < 2 ^ 32 → ltZ z (pos 0 -ℤ pos n) ≡ false → ltZ (pos n) z ≡ false → Within n z
+tested-within n z h l u =
+    within-out n z (go z (ltZ-false z (pos 0 -ℤ pos n) l) (ltZ-false (pos n) z u))
+  where
+    d : up (pos 0 -ℤ pos n) + (0 + n) ≡ dn (pos 0 -ℤ pos n) + (0 + 0)
+    d = sub-parts (pos 0) (pos n)
+
+    go : (y : ℤ) → up (pos 0 -ℤ pos n) + dn y ≤ up y + dn (pos 0 -ℤ pos n) → up y + 0 ≤ n + dn y → up y + dn y ≤ n
+    go (pos k) a b = omega arith
+    go (negsuc k) a b = omega (arith, low-side (pos 0 -ℤ pos n) d)
+      where
+        low-side : (v : ℤ) → up v + (0 + n) ≡ dn v + (0 + 0) → dn v ≤ n
+        low-side (pos m) e = omega arith
+        low-side (negsuc m) e = omega arith
+
+pub minus-number-fits : (n : ℕ) → n < 2 ^ 32 → SFits w64 (pos 0 -ℤ pos n)
+minus-number-fits n h = fits-small (pos 0 -ℤ pos n) (omega (arith, sub-size (pos 0) (pos n)))

@@ -51,6 +51,12 @@ within-out n z h =
       below = le-out z (pos n) (omega arith);
     }
 
+pub within-wider : {k : ℕ} {z : ℤ} (n : ℕ) → k ≤ n → Within k z → Within n z
+within-wider {k} {z} n h w = within-out n z (omega (arith, within-size w))
+
+pub within-zero : (n : ℕ) → Within n (pos 0)
+within-zero n = within-out n (pos 0) (omega arith)
+
 -- a Bool that is true, as the proposition T
 pub T-true : (b : Bool) → b ≡ true → T b
 T-true true e = tt
@@ -146,3 +152,6 @@ size-none r v =
 pub record RangeWithin (n : ℕ) (r : Range) : Type 0 where
   pub low-within : Within n (r .low)
   pub high-within : Within n (r .high)
+
+pub range-wider : {k : ℕ} {r : Range} (n : ℕ) → k ≤ n → RangeWithin k r → RangeWithin n r
+range-wider n h w = record { low-within = within-wider n h (w .low-within); high-within = within-wider n h (w .high-within) }
