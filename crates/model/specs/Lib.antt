@@ -10,3 +10,4 @@ pub mod ChartBytes
 pub mod Rounds
 pub mod ChartRules
 pub mod ChartEquality
+pub mod Theorems
