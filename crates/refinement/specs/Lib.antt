@@ -1,0 +1,10 @@
+pub mod Table
+pub mod Flags
+pub mod Numbering
+pub mod Walk
+pub mod Potential
+pub mod SheetTable
+pub mod Widths
+pub mod Loop
+pub mod Completed
+pub mod Ordering
