@@ -192,6 +192,9 @@ add-size a b = go (a +ℤ b) (add-parts a b)
     go (pos n) e = omega arith
     go (negsuc n) e = omega arith
 
+pub mul-size : (a b : ℤ) → up (a *ℤ b) + dn (a *ℤ b) ≡ (up a + dn a) * (up b + dn b)
+mul-size a b = omega (arith, mul-up a b, mul-dn a b)
+
 pub sub-size : (a b : ℤ) → up (a -ℤ b) + dn (a -ℤ b) ≤ up a + dn a + (up b + dn b)
 sub-size a b = omega (arith, add-size a (negℤ b), up-neg b, dn-neg b)
 

@@ -6,3 +6,4 @@ pub mod Boxes
 pub mod Accepted
 pub mod Three
 pub mod Fields
+pub mod Space

@@ -3,6 +3,7 @@ use integers::Range;
 use model::Rule;
 
 pub mod fields;
+pub mod space;
 
 // The three counts of a sheet: V, A and R.
 pub struct Shape {
