@@ -87,3 +87,32 @@ each-fine f (suc n) e i h =
 pub each-all : (f : ℕ → Checked) (n : ℕ) → ((i : ℕ) → i < n → f i ≡ Fine) → each f n ≡ Fine
 each-all f zero h = each-none f
 each-all f (suc n) h = each-one f n (each-all f n (λ i k. h i (omega arith))) ∙ h n (omega arith)
+
+-- a test that passed, and one that failed
+pub demand-passed : (t : Bool) (n p : ℕ) → t ≡ true → Fine ≡ demand t n p
+unfolding demand
+demand-passed t n p e = rw e refl
+
+pub demand-failed : (t : Bool) (n p : ℕ) → t ≡ false → Refused n p ≡ demand t n p
+unfolding demand
+demand-failed t n p e = rw e refl
+
+-- the same for a stage's answer that code holds: it was refused, so it is the chain's answer; it passed, so the rest is
+pub stop : {r a : Checked} {n p : ℕ} (b : Checked) → r ≡ a → r ≡ Refused n p → r ≡ andThen a b
+stop b e h = e ∙ handed b (sym e ∙ h)
+
+pub go-on : {r a b q : Checked} → r ≡ a → r ≡ Fine → q ≡ b → q ≡ andThen a b
+go-on e h k = passed (sym e ∙ h) k
+
+pub demand-by : {r : Checked} {t u : Bool} (n p : ℕ) → r ≡ demand t n p → t ≡ u → r ≡ demand u n p
+demand-by n p e h = e ∙ ap (λ (t : Bool). demand t n p) h
+
+-- a loop over stages: one refused, one more passed, all passed
+pub loop-stop : (f : ℕ → Checked) (i n : ℕ) {r : Checked} {m p : ℕ} → each f i ≡ Fine → r ≡ f i → r ≡ Refused m p → i < n → r ≡ each f n
+loop-stop f i n e h k l = k ∙ sym (each-first f i n e (sym h ∙ k) l)
+
+pub loop-more : (f : ℕ → Checked) (i : ℕ) {r : Checked} → each f i ≡ Fine → r ≡ f i → r ≡ Fine → each f (i + 1) ≡ Fine
+loop-more f i e h k = each-more f i e (sym h ∙ k)
+
+pub loop-end : (f : ℕ → Checked) (i n : ℕ) → each f i ≡ Fine → n ≤ i → i ≤ n → Fine ≡ each f n
+loop-end f i n e h k = let q : i ≡ n = omega arith in sym e ∙ ap (each f) q

@@ -1,5 +1,8 @@
 // What the public functions answer. Refusal numbers and what each returns are those of document 01's table "Turned back".
 
+ghost use mathlib.Core.Path.{_≡_};
+ghost use Rattle.answers.specs.Stages.{demand};
+
 // A check, or a stage of one: it passed, or it was refused with a number and what the table says is returned.
 pub enum Checked {
     Fine,
@@ -16,4 +19,15 @@ pub enum Ending {
 pub enum Ran {
     Done { labels: usize, ending: Ending },
     Refused { number: u8, returned: usize },
+}
+
+// A stage of one test: refused where it fails.
+pub fn demanded(test: bool, number: u8, returned: usize) -> Checked
+    ensures { λ r. ⌜ r ≡ demand test number returned ⌝ }
+{
+    if test {
+        Checked::Fine
+    } else {
+        Checked::Refused { number, returned }
+    }
 }

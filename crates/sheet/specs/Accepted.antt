@@ -1,40 +1,34 @@
 -- Bytes that pass the check decode to a well-formed sheet, so the theorems of the model apply to them; bytes that are refused 5 to 8 decode to one that is not.
 use mathlib.Core.Path.{_≡_, refl, sym, ap, subst, _∙_}
-use mathlib.Core.Logic.{_↔_}
-use mathlib.Core.Bool.{Bool, true, false, _&&_, not, cond}
-use mathlib.Core.List.{List, [], _∷_, _++_, List·Memᴰ}
+use mathlib.Core.Logic.{_↔_, ⊎-elim}
+use mathlib.Core.Bool.{Bool, true, false, not}
+use mathlib.Core.List.{List, [], _∷_, List·Memᴰ, List·Memᴰ·head, List·Memᴰ·tail, List·Memᴰ·not-nil, List·Memᴰ·cases-cons}
 use mathlib.Core.Option.{Option, some, none}
-use Prim.Native.Nat.{ℕ, zero, suc, _+_, _^_, _≤_, _<_}
-use native.Mathlib.Nat.{not-suc-le-zero}
+use Prim.Native.Nat.{ℕ, zero, suc, _+_, _≤_, _<_}
 use native.Mathlib.Omega.{arith}
-use lib.Dec.{T, eqb, leb, ltb, eqb→eq, leb→le, ltb→lt, lit≤}
-use lib.ListN.{length, getD, drop}
+use lib.Dec.{T, lit<, eqb, leb, ltb, eqb→eq, eqb-refl, leb→le}
+use lib.ListN.{length, getD, drop, List·getD-eq-default}
 use lib.Seq.{getD-drop}
 use borrow.Author.Tests.{ltb-true, ltb-false}
-use lib.IntN.{ℤ, pos, negsuc, negℤ, _-ℤ_}
-use lib.Signed.{_≤ℤ_, leZ}
-use Rattle.integers.specs.Order.{up, dn, ints, sub-parts, eq-out}
-use Rattle.integers.specs.declared.Range.{Range}
-use Rattle.integers.specs.Range.{contains, contains-le, Within, within-size, within-out, within-wider}
-use Rattle.integers.specs.LittleEndian.{Bytes, unsignedAt, joined, joined-lt, signedOf, signedAt}
-use Rattle.systems.specs.Search.{any, all, run}
-use Rattle.systems.specs.Laws.{told, is-true, true-is, is-false, both, any-true, all-true}
+use Rattle.integers.specs.LittleEndian.{Bytes, unsignedAt, joined, joined-lt}
+use Rattle.systems.specs.Search.{any, run}
+use Rattle.systems.specs.Laws.{told, is-true, true-is, both, any-true}
 use Rattle.systems.specs.Lists.{collect, length-each, getD-each}
 use Rattle.answers.specs.declared.Checked.{Checked}
 use Rattle.answers.specs.declared.Checked.the-variants.{Fine, Refused}
-use Rattle.answers.specs.Stages.{andThen, demand, each, then-fine, demand-fine, each-fine}
-use Rattle.model.specs.declared.Rule.{Rule}
-use Rattle.model.specs.declared.Rule.the-variants.{Set, Carry}
+use Rattle.answers.specs.Stages.{andThen, demand, each, then-fine, demand-fine, each-fine, each-all}
 use Rattle.model.specs.Sheet as Model
-use Rattle.model.specs.Sheet.{Configuration, Move, Barred, Open, Region, Sheet, Each, each-none, each-more, RuleFits, set-fits, carry-fits, RangeFits, MoveFits, barred-fits, open-fits, RegionFits, Covered, WellFormed, inBox, step, moved, regionOf, regionNumber, nowhere}
+use Rattle.model.specs.Sheet.{Configuration, Box, Move, Barred, Open, Region, Sheet, Each, RegionFits, MoveFits, RangeFits, Covered, WellFormed, inBox, step, moved, regionOf, regionNumber, nowhere}
 use Rattle.model.specs.Listing.{members}
 use Rattle.model.specs.Finite.{members-mem}
-use Rattle.model.specs.Classes.{covered-in, in-covered}
-use Rattle.sheet.specs.Layout.{countersOf, actionsOf, regionsOf, boundSize, regionPlace, labelAt, stateAt, lowPlace, highPlace, movePlace, movePart, rulePlace, kindOf, sourceOf, factorOf, offsetOf}
-use Rattle.sheet.specs.Decode.{listed, ruleOf, ruleAt, moveOf, rangeAt, boxAt, moveAt, regionAt, startOf, decode}
-use Rattle.sheet.specs.Check.{from-to, near, checkCounts, checkLength, checkRule, checkZeroRule, checkMove, checkFields, checkLabel, checkOverlap, covered, checkStart, every, lands, checkLanding, overlap}
+use Rattle.model.specs.Classes.{covered-in, in-covered, number-is}
+use Rattle.sheet.specs.Layout.{countersOf, actionsOf, regionsOf, regionPlace, labelAt, stateAt, highPlace, movePlace, movePart, rulePlace, kindOf}
+use Rattle.sheet.specs.Decode.{listed, rangeAt, boxAt, moveAt, regionAt, startOf, decode}
+use Rattle.sheet.specs.Check.{from-to, checkHeader, checkCounts, checkLength, checkRule, checkZeroRule, checkMove, checkFields, checkLabel, checkOverlap, covered, checkStart, every, lands, checkLanding, overlap, sheetCheck}
 use Rattle.sheet.specs.Shape.{Shaped}
-use Rattle.sheet.specs.Boxes.{overlap-in, overlap-out, shared}
+use Rattle.sheet.specs.Overlap.{overlap-out, regions-apart}
+use Rattle.sheet.specs.Fits.{each-listed, bytes-drop, moves-fit, range-fits}
+use Rattle.sheet.specs.Landing.{Passed}
 
 demanded : (t : Bool) (n p : ℕ) → demand t n p ≡ Fine → T t
 demanded t n p e = true-is t (demand-fine t n p e)
@@ -61,74 +55,300 @@ shaped s e l =
       length-right = eqb→eq (length s) (regionPlace s (regionsOf s)) (demanded _ 3 (length s) l);
     }
 
--- what a test of nearness says
-near-within : (n : ℕ) (z : ℤ) → T (near n z) → Within n z
-near-within n z t = let (a, b) = contains-le (record { low = negℤ (pos n); high = pos n }) z .0 t in record { above = a; below = b }
+-- What each check leaves of an accepted sheet.
+pub record Stages (s : List ℕ) : Type 0 where
+  pub shape : Shaped s
+  pub fields : each (checkFields s) (regionsOf s) ≡ Fine
+  pub labels : each (checkLabel s) (regionsOf s) ≡ Fine
+  pub apart : each (checkOverlap s) (regionsOf s) ≡ Fine
+  pub start : checkStart s ≡ Fine
+  pub landing : each (λ i. each (checkLanding s i) (actionsOf s)) (regionsOf s) ≡ Fine
 
-within-near : (n : ℕ) (z : ℤ) → Within n z → T (near n z)
-within-near n z w = contains-le (record { low = negℤ (pos n); high = pos n }) z .1 (w .above, w .below)
+pub stages : (s : List ℕ) → sheetCheck s ≡ Fine → Stages s
+unfolding sheetCheck
+stages s e =
+    let (a, r₁) = then-fine (checkHeader s) _ e in
+    let (b, r₂) = then-fine (checkCounts s) _ r₁ in
+    let (c, r₃) = then-fine (checkLength s) _ r₂ in
+    let (d, r₄) = then-fine (each (checkFields s) (regionsOf s)) _ r₃ in
+    let (f, r₅) = then-fine (each (checkLabel s) (regionsOf s)) _ r₄ in
+    let (g, r₆) = then-fine (each (checkOverlap s) (regionsOf s)) _ r₅ in
+    let (h, k) = then-fine (checkStart s) _ r₆ in
+    record { shape = shaped s b c; fields = d; labels = f; apart = g; start = h; landing = k }
 
--- a signed number of two bytes is within 32,768 of zero
-pub signed-within : (s : List ℕ) (at : ℕ) → Bytes s → Within 32768 (signedAt 2 s at)
-unfolding signedAt signedOf unsignedAt
-signed-within s at b = go (joined 2 (drop at s)) (joined-lt 2 (drop at s) (λ i. subst (λ (k : ℕ). k < 256) (sym (getD-drop at s i 0)) (b (at + i))))
+-- the decoded regions, by index
+module _ (s : List ℕ) where
+  pub regions-count : length (decode s .regions) ≡ regionsOf s
+  unfolding decode
+  regions-count = length-each (regionAt s) (regionsOf s)
+
+  pub region-is : (i : ℕ) → i < regionsOf s → Model.regionAt (decode s) i ≡ regionAt s i
+  unfolding decode
+  region-is i h = getD-each (regionAt s) (regionsOf s) nowhere i h
+
+  pub box-is : (i : ℕ) → i < regionsOf s → Model.regionAt (decode s) i .box ≡ boxAt s i
+  unfolding regionAt
+  box-is i h = ap (λ (r : Region). r .box) (region-is i h)
+
+  -- a configuration is covered just when some region's box has it
+  pub covered-is : (x : Configuration) → T (covered s x) ↔ Covered (decode s) x
+  covered-is x = (to, from)
+    where
+      to : T (covered s x) → Covered (decode s) x
+      to t =
+          let (i, h, m) = any-true (λ i. inBox (boxAt s i) x) (regionsOf s) .0 t in
+          let n = regions-count in
+          in-covered (decode s) i x (omega arith) (subst (λ (b : Box). T (inBox b x)) (sym (box-is i h)) m)
+
+      from : Covered (decode s) x → T (covered s x)
+      from c =
+          let n = regions-count in
+          let i = regionNumber (decode s) x in
+          let h : i < regionsOf s = omega arith in
+          any-true (λ i. inBox (boxAt s i) x) (regionsOf s) .1 (i, h, subst (λ (b : Box). T (inBox b x)) (box-is i h) (in-own c))
+        where
+          in-own : Covered (decode s) x → T (inBox (Model.regionAt (decode s) (regionNumber (decode s) x) .box) x)
+          in-own d = unfold regionOf in covered-in (decode s) x d
+
+-- an element of a list passes a test that every element passes, and the other way round
+every-at : {A : Type 0} (p : A → Bool) (l : List A) (x : A) → T (every p l) → List·Memᴰ x l → T (p x)
+unfolding every
+every-at p [] x t m = absurd (List·Memᴰ·not-nil m)
+every-at {A} p (y ∷ l) x t m =
+    let (a, b) = both (p y) (every p l) .0 t in
+    ⊎-elim (λ e. subst (λ (z : A). T (p z)) (sym e) a) (λ k. every-at p l x b k) (List·Memᴰ·cases-cons m)
+
+every-all : {A : Type 0} (p : A → Bool) (l : List A) → ((x : A) → List·Memᴰ x l → T (p x)) → T (every p l)
+unfolding every
+every-all p [] h = tt
+every-all p (y ∷ l) h = both (p y) (every p l) .1 (h y (List·Memᴰ·head refl), every-all p l (λ x m. h x (List·Memᴰ·tail m)))
+
+-- what an action does in region i, and past the sheet's actions
+module _ (s : List ℕ) (x : Configuration) where
+  pub step-is : (i a : ℕ) → i < regionsOf s → a < actionsOf s → regionNumber (decode s) x ≡ i → step (decode s) a x ≡ moved (moveAt s i a) x
+  unfolding step regionOf regionAt
+  step-is i a h k e =
+      let r : Model.regionAt (decode s) (regionNumber (decode s) x) ≡ regionAt s i = ap (Model.regionAt (decode s)) e ∙ region-is s i h in
+      ap (λ (r : Region). moved (getD (r .moves) a Barred) x) r ∙ ap (λ (m : Move). moved m x) (own i a k)
+    where
+      own : (i a : ℕ) → a < actionsOf s → getD (regionAt s i .moves) a Barred ≡ moveAt s i a
+      own i a k = getD-each (moveAt s i) (actionsOf s) Barred a k
+
+  pub step-past : (i a : ℕ) → i < regionsOf s → actionsOf s ≤ a → regionNumber (decode s) x ≡ i → step (decode s) a x ≡ none
+  unfolding step regionOf regionAt moved
+  step-past i a h k e =
+      let r : Model.regionAt (decode s) (regionNumber (decode s) x) ≡ regionAt s i = ap (Model.regionAt (decode s)) e ∙ region-is s i h in
+      let l = length-each (moveAt s i) (actionsOf s) in
+      ap (λ (r : Region). moved (getD (r .moves) a Barred) x) r ∙ ap (λ (m : Move). moved m x) (List·getD-eq-default (listed (moveAt s i) (actionsOf s)) Barred (omega arith))
+
+-- a test that nothing earlier passes
+none-earlier : (p : ℕ → Bool) (j : ℕ) → T (not (any p j)) ↔ ((i : ℕ) → i < j → T (p i) → ⊥)
+none-earlier p j = (λ t i h k. clash (any p j) t (any-true p j .1 (i, h, k)), λ f. fresh (any p j) refl f)
   where
-    go : (u : ℕ) → u < 65536 → Within 32768 (cond (ltb u 32768) (pos u) (pos u -ℤ pos 65536))
-    go u h = pick (ltb u 32768) refl
-      where
-        high : (z : ℤ) → up z + (0 + 65536) ≡ dn z + (u + 0) → 32768 ≤ u → Within 32768 z
-        high (pos k) e l = within-out 32768 (pos k) (omega arith)
-        high (negsuc k) e l = within-out 32768 (negsuc k) (omega arith)
+    clash : (b : Bool) → T (not b) → T b → ⊥
+    clash true t u = t
+    clash false t u = u
 
-        pick : (t : Bool) → ltb u 32768 ≡ t → Within 32768 (cond t (pos u) (pos u -ℤ pos 65536))
-        pick true e = let l = ltb-true u 32768 e in within-out 32768 (pos u) (omega arith)
-        pick false e = high (pos u -ℤ pos 65536) (sub-parts (pos u) (pos 65536)) (ltb-false u 32768 e)
+    fresh : (b : Bool) → any p j ≡ b → ((i : ℕ) → i < j → T (p i) → ⊥) → T (not b)
+    fresh true e f = let (i, h, k) = any-true p j .0 (true-is (any p j) e) in f i h k
+    fresh false e f = tt
 
--- a property of each listed item
-each-listed : {A : Type 0} {P : A → Type 0} (f : ℕ → A) (n : ℕ) → ((i : ℕ) → i < n → P (f i)) → Each P (listed f n)
-unfolding collect
-each-listed f zero h = each-none
-each-listed {A} {P} f (suc n) h = last (listed f n) (f n) (each-listed f n (λ i k. h i (omega arith))) (h n (omega arith))
+-- Accepted bytes are a well-formed sheet.
+module _ (s : List ℕ) (B : Bytes s) (e : sheetCheck s ≡ Fine) where
+  S : Stages s
+  S = stages s e
+
+  label-lt : (i : ℕ) → labelAt s i < 65536
+  unfolding labelAt unsignedAt
+  label-lt i = joined-lt 2 (drop (regionPlace s i) s) (bytes-drop s (regionPlace s i) B)
+
+  region-fits : (i : ℕ) → i < regionsOf s → RegionFits (countersOf s) (actionsOf s) (regionAt s i)
+  unfolding regionAt boxAt stateAt
+  region-fits i h =
+      record {
+        label-fits = label-lt i;
+        state-fits = B (regionPlace s i + 2);
+        ranges-count = length-each (rangeAt s i) (countersOf s);
+        ranges-fit = each-listed (rangeAt s i) (countersOf s) (λ v k. range-fits s B (S .fields) i v h k);
+        moves-count = length-each (moveAt s i) (actionsOf s);
+        moves-fit = each-listed (moveAt s i) (actionsOf s) (λ a k. moves-fit s B (S .fields) i a h k);
+      }
+
+  labels-differ : (i j : ℕ) → i < j → j < regionsOf s → labelAt s i ≡ labelAt s j → ⊥
+  unfolding checkLabel
+  labels-differ i j h k q =
+      none-earlier (λ i. eqb (labelAt s i) (labelAt s j)) j .0 (demanded _ 5 (regionPlace s j) (each-fine (checkLabel s) (regionsOf s) (S .labels) j k)) i h
+      (subst (λ (l : ℕ). T (eqb (labelAt s i) l)) q (eqb-refl (labelAt s i)))
+
+  label-is : (i : ℕ) → i < regionsOf s → Model.regionAt (decode s) i .label ≡ labelAt s i
+  unfolding regionAt
+  label-is i h = ap (λ (r : Region). r .label) (region-is s i h)
+
+  start-in : Covered (decode s) (startOf s)
+  unfolding checkStart
+  start-in = covered-is s (startOf s) .0 (demanded (covered s (startOf s)) 7 8 (S .start))
+
+  -- an open move of region i takes what is in its box into some region
+  move-lands : (i a : ℕ) (x y : Configuration) → i < regionsOf s → a < actionsOf s → T (inBox (boxAt s i) x) → moved (moveAt s i a) x ≡ some y → Covered (decode s) y
+  unfolding checkLanding lands
+  move-lands i a x y h k t m =
+      let f = each-fine (checkLanding s i) (actionsOf s) (each-fine (λ i. each (checkLanding s i) (actionsOf s)) (regionsOf s) (S .landing) i h) a k in
+      let g = every-at (λ x. lands s (moved (moveAt s i a) x)) (members (boxAt s i)) x (demanded _ 8 (movePlace s i a) f) (members-mem (boxAt s i) x .1 t) in
+      covered-is s y .0 (subst (λ (o : Option Configuration). T (lands s o)) m g)
+
+  all-land : (x y : Configuration) (a : ℕ) → Covered (decode s) x → step (decode s) a x ≡ some y → Covered (decode s) y
+  unfolding regionOf
+  all-land x y a c m =
+      let n = regions-count s in
+      let i = regionNumber (decode s) x in
+      let h : i < regionsOf s = omega arith in
+      let t = subst (λ (b : Box). T (inBox b x)) (box-is s i h) (covered-in (decode s) x c) in
+      ⊎-elim
+      (λ q. let k = ltb-true a (actionsOf s) q in move-lands i a x y h k t (sym (step-is s x i a h k refl) ∙ m))
+      (λ q. none-some (sym (step-past s x i a h (ltb-false a (actionsOf s) q) refl) ∙ m))
+      (told (ltb a (actionsOf s)))
+    where
+      none-some : none ≡ some y → Covered (decode s) y
+      none-some q = let z : _≡_ {A = ℕ} 0 1 = cc in absurd (omega arith)
+
+  pub accepted : WellFormed (decode s)
+  unfolding decode
+  accepted =
+      let n = regions-count s in
+      record {
+        counters-some = S .shape .counters-some;
+        counters-few = S .shape .counters-few;
+        actions-some = S .shape .actions-some;
+        actions-few = S .shape .actions-few;
+        regions-few = omega (arith, S .shape .regions-few);
+        regions-fit = each-listed (regionAt s) (regionsOf s) region-fits;
+        labels-distinct = λ i j h k q.
+            let l : j < regionsOf s = omega arith in
+            labels-differ i j h l (sym (label-is i (omega arith)) ∙ q ∙ label-is j l);
+        regions-disjoint = λ i j x h k p q.
+            let l : j < regionsOf s = omega arith in
+            regions-apart s (S .apart) i j x h l
+            (subst (λ (b : Box). T (inBox b x)) (box-is s i (omega arith)) p)
+            (subst (λ (b : Box). T (inBox b x)) (box-is s j l) q);
+        start-covered = start-in;
+        moves-land = all-land;
+      }
+
+-- A well-formed sheet passes 5 to 8.
+passed-by : (t : Bool) (n p : ℕ) → T t → demand t n p ≡ Fine
+unfolding demand
+passed-by true n p h = refl
+passed-by false n p h = absurd h
+
+module _ (s : List ℕ) (W : WellFormed (decode s)) where
+  labels-pass : each (checkLabel s) (regionsOf s) ≡ Fine
+  unfolding checkLabel regionAt
+  labels-pass =
+      let n = regions-count s in
+      each-all (checkLabel s) (regionsOf s) (λ j h.
+      passed-by _ 5 (regionPlace s j) (none-earlier (λ i. eqb (labelAt s i) (labelAt s j)) j .1 (λ i k t.
+      let a = ap (λ (r : Region). r .label) (region-is s i (omega arith)) in
+      let b = ap (λ (r : Region). r .label) (region-is s j h) in
+      W .labels-distinct i j k (omega arith) (a ∙ eqb→eq (labelAt s i) (labelAt s j) t ∙ sym b))))
+
+  overlap-pass : each (checkOverlap s) (regionsOf s) ≡ Fine
+  unfolding checkOverlap
+  overlap-pass =
+      let n = regions-count s in
+      each-all (checkOverlap s) (regionsOf s) (λ j h.
+      passed-by _ 6 (regionPlace s j) (none-earlier (λ i. overlap s i j) j .1 (λ i k t.
+      let (x, p, q) = overlap-out s i j t in
+      W .regions-disjoint i j x k (omega arith)
+      (subst (λ (b : Box). T (inBox b x)) (sym (box-is s i (omega arith))) p)
+      (subst (λ (b : Box). T (inBox b x)) (sym (box-is s j h)) q))))
+
+  start-pass : checkStart s ≡ Fine
+  unfolding checkStart decode
+  start-pass = passed-by (covered s (startOf s)) 7 8 (covered-is s (startOf s) .1 (W .start-covered))
+
+  landing-pass : each (λ i. each (checkLanding s i) (actionsOf s)) (regionsOf s) ≡ Fine
+  unfolding checkLanding
+  landing-pass =
+      each-all (λ i. each (checkLanding s i) (actionsOf s)) (regionsOf s) (λ i h.
+      each-all (checkLanding s i) (actionsOf s) (λ a k.
+      passed-by _ 8 (movePlace s i a) (every-all (λ x. lands s (moved (moveAt s i a) x)) (members (boxAt s i)) (λ x m. lands-from i a x h k (members-mem (boxAt s i) x .0 m)))))
+    where
+      lands-from : (i a : ℕ) (x : Configuration) → i < regionsOf s → a < actionsOf s → T (inBox (boxAt s i) x) → T (lands s (moved (moveAt s i a) x))
+      lands-from i a x h k t =
+          let n = regions-count s in
+          let b = subst (λ (b : Box). T (inBox b x)) (sym (box-is s i h)) t in
+          let l : i < length (decode s .regions) = omega arith in
+          let c = in-covered (decode s) i x l b in
+          go (moved (moveAt s i a) x) (step-is s x i a h k (number-is (decode s) W i x l b)) c
+        where
+          go : (o : Option Configuration) → step (decode s) a x ≡ o → Covered (decode s) x → T (lands s o)
+          go none q c = none-lands
+            where
+              none-lands : T (lands s none)
+              none-lands = unfold lands in tt
+          go (some y) q c = unfold lands in covered-is s y .1 (W .moves-land x y a c q)
+
+-- every refusal of a check has a number below 5
+abbrev Early : Checked → Type 0
+Early c = (n p : ℕ) → c ≡ Refused n p → n < 5
+
+early-demand : (t : Bool) (k q : ℕ) → k < 5 → Early (demand t k q)
+unfolding demand
+early-demand true k q h n p e = let z : _≡_ {A = ℕ} 0 1 = cc in absurd (omega arith)
+early-demand false k q h n p e = let z : k ≡ n = cc in omega arith
+
+early-fine : (c : Checked) → c ≡ Fine → Early c
+early-fine c f n p e = let z : _≡_ {A = ℕ} 0 1 = cc in absurd (omega arith)
+
+early-then : (a b : Checked) → Early a → Early b → Early (andThen a b)
+unfolding andThen
+early-then Fine b h k = k
+early-then (Refused m q) b h k = h
+
+early-each : (f : ℕ → Checked) (n : ℕ) → ((i : ℕ) → Early (f i)) → Early (each f n)
+unfolding run
+early-each f zero h = early-fine Fine refl
+early-each f (suc n) h = early-then (each f n) (f n) (early-each f n h) (h n)
+
+early-rule : (V# : ℕ) (p : List ℕ) (at : ℕ) → Early (checkRule V# p at)
+unfolding checkRule
+early-rule V# p at =
+    early-then _ _ (early-demand _ 4 at (lit< tt))
+    (early-then _ _ (early-demand _ 4 (at + 1) (lit< tt)) (early-then _ _ (early-demand _ 4 (at + 2) (lit< tt)) (early-demand _ 4 (at + 3) (lit< tt))))
+
+early-zero : (p : List ℕ) (at : ℕ) → Early (checkZeroRule p at)
+unfolding checkZeroRule
+early-zero p at =
+    early-then _ _ (early-demand _ 4 at (lit< tt))
+    (early-then _ _ (early-demand _ 4 (at + 1) (lit< tt)) (early-then _ _ (early-demand _ 4 (at + 2) (lit< tt)) (early-demand _ 4 (at + 3) (lit< tt))))
+
+early-move : (V# : ℕ) (p : List ℕ) (at : ℕ) → Early (checkMove V# p at)
+unfolding checkMove
+early-move V# p at = early-then _ _ (early-demand _ 4 at (lit< tt)) (go (eqb (kindOf p) 0))
   where
-    last : (l : List A) (a : A) → Each P l → P a → Each P (l ++ (a ∷ []))
-    last [] a each-none p = each-more p each-none
-    last (b ∷ l) a (each-more q e) p = each-more q (last l a e p)
+    go : (k : Bool) → Early (elim k [
+      | true ↦ andThen (demand (eqb (getD p 1 0) 0) 4 (at + 1)) (each (λ v. checkZeroRule (drop (rulePlace v) p) (at + rulePlace v)) V#)
+      | false ↦ each (λ v. checkRule V# (drop (rulePlace v) p) (at + rulePlace v)) V#
+    ])
+    go true = early-then _ _ (early-demand _ 4 (at + 1) (lit< tt)) (early-each _ V# (λ v. early-zero (drop (rulePlace v) p) (at + rulePlace v)))
+    go false = early-each _ V# (λ v. early-rule V# (drop (rulePlace v) p) (at + rulePlace v))
 
--- check 4 of a rule and of a move
-rule-fits : (V# : ℕ) (p : List ℕ) (at : ℕ) → checkRule V# p at ≡ Fine → RuleFits V# (ruleOf p)
-unfolding checkRule ruleOf
-rule-fits V# p at e =
-    let (a, r) = then-fine (demand (leb (kindOf p) 1) 4 at) _ e in
-    let (b, q) = then-fine (demand (elim (eqb (kindOf p) 0) [ true ↦ eqb (sourceOf p) 0 | false ↦ ltb (sourceOf p) V# ]) 4 (at + 1)) _ r in
-    let (c, d) = then-fine (demand (elim (eqb (kindOf p) 0) [ true ↦ near 0 (factorOf p) | false ↦ near 100 (factorOf p) && not (near 0 (factorOf p)) ]) 4 (at + 2)) _ q in
-    go (eqb (kindOf p) 0) (demanded _ 4 (at + 1) b) (demanded _ 4 (at + 2) c) (within-wider 200000000 (lit≤ tt) (near-within 4000000 (offsetOf p) (demanded _ 4 (at + 3) d)))
-  where
-    not-near : (z : ℤ) → T (not (near 0 z)) → z ≡ pos 0 → ⊥
-    not-near z t e = clash (near 0 z) t (within-near 0 z (within-out 0 z (subst (λ (y : ℤ). up y + dn y ≤ 0) (sym e) (lit≤ tt))))
-      where
-        clash : (b : Bool) → T (not b) → T b → ⊥
-        clash true t u = t
-        clash false t u = u
+early-fields : (s : List ℕ) (i : ℕ) → Early (checkFields s i)
+unfolding checkFields
+early-fields s i =
+    early-then _ _ (early-each _ (countersOf s) (λ v. early-demand _ 4 (highPlace s i v) (lit< tt)))
+    (early-each _ (actionsOf s) (λ a. early-move (countersOf s) (movePart s i a) (movePlace s i a)))
 
-    go : (k : Bool) → T (elim k [ true ↦ eqb (sourceOf p) 0 | false ↦ ltb (sourceOf p) V# ])
-        → T (elim k [ true ↦ near 0 (factorOf p) | false ↦ near 100 (factorOf p) && not (near 0 (factorOf p)) ]) → Within 200000000 (offsetOf p)
-        → RuleFits V# (elim k [ true ↦ Set (offsetOf p) | false ↦ Carry (sourceOf p) (factorOf p) (offsetOf p) ])
-    go true t u w = set-fits w
-    go false t u w =
-        let (x, y) = both (near 100 (factorOf p)) (not (near 0 (factorOf p))) .0 u in
-        carry-fits (ltb→lt (sourceOf p) V# t) (not-near (factorOf p) y) (near-within 100 (factorOf p) x) w
-
-move-fits : (V# : ℕ) (p : List ℕ) (at : ℕ) → Bytes p → checkMove V# p at ≡ Fine → MoveFits V# (moveOf V# p)
-unfolding checkMove moveOf
-move-fits V# p at B e = go (eqb (kindOf p) 0) (then-fine (demand (leb (kindOf p) 1) 4 at) _ e .1)
-  where
-    go : (k : Bool)
-        → elim k [
-          | true ↦ andThen (demand (eqb (getD p 1 0) 0) 4 (at + 1)) (each (λ v. checkZeroRule (drop (rulePlace v) p) (at + rulePlace v)) V#)
-          | false ↦ each (λ v. checkRule V# (drop (rulePlace v) p) (at + rulePlace v)) V#
-        ] ≡ Fine
-        → MoveFits V# (elim k [ true ↦ Barred | false ↦ Open (getD p 1 0) (listed (ruleAt p) V#) ])
-    go true d = barred-fits
-    go false d =
-        open-fits (B 1) (length-each (ruleAt p) V#)
-        (each-listed (ruleAt p) V# (λ v h. rule-fits V# (drop (rulePlace v) p) (at + rulePlace v) (each-fine (λ v. checkRule V# (drop (rulePlace v) p) (at + rulePlace v)) V# d v h)))
+-- Bytes that are refused 5 to 8 are no well-formed sheet.
+pub refused-late : (s : List ℕ) (n p : ℕ) → sheetCheck s ≡ Refused n p → 5 ≤ n → WellFormed (decode s) → ⊥
+unfolding sheetCheck checkHeader checkCounts checkLength
+refused-late s n p e h W =
+    let early =
+    early-then (checkHeader s) _ (early-demand _ 1 0 (lit< tt))
+    (early-then (checkCounts s) _
+    (early-then _ _ (early-demand _ 2 5 (lit< tt)) (early-then _ _ (early-demand _ 2 6 (lit< tt)) (early-demand _ 2 7 (lit< tt))))
+    (early-then (checkLength s) _ (early-demand _ 3 (length s) (lit< tt))
+    (early-then (each (checkFields s) (regionsOf s)) _ (early-each (checkFields s) (regionsOf s) (early-fields s))
+    (early-then _ _ (early-fine _ (labels-pass s W))
+    (early-then _ _ (early-fine _ (overlap-pass s W)) (early-then _ _ (early-fine _ (start-pass s W)) (early-fine _ (landing-pass s W)))))))) in
+    omega (arith, early n p e)

@@ -1,11 +1,9 @@
 -- Laws by which the readers of a sheet's fields meet their definitions.
-use mathlib.Core.Path.{_≡_, refl, sym, ap, subst, _∙_}
-use mathlib.Core.Bool.{Bool, true, false, cond}
-use mathlib.Core.List.{List, [], _∷_}
-use Prim.Native.Nat.{ℕ, zero, suc, _+_, _*_, _-_, _≤_, _<_}
+use mathlib.Core.Path.{_≡_, sym, ap, _∙_}
+use mathlib.Core.List.{List}
+use Prim.Native.Nat.{ℕ, _+_, _*_, _-_, _≤_, _<_}
 use native.Mathlib.Nat.{mul-le-mul-left}
 use native.Mathlib.Omega.{arith}
-use lib.Dec.{eqb}
 use lib.ListN.{length, getD, take, drop, length-drop}
 use lib.Seq.{take-all}
 use lib.IntN.{ℤ, pos}
@@ -15,17 +13,14 @@ use Rattle.integers.specs.LittleEndian.{signedAt}
 use Rattle.model.specs.declared.Rule.{Rule}
 use Rattle.model.specs.declared.Rule.the-variants.{Set, Carry}
 use Rattle.sheet.specs.declared.Shape.{Shape}
-use Rattle.sheet.specs.declared.Ranges.{Ranges}
 use Rattle.sheet.specs.declared.RegionBox.{RegionBox}
-use Rattle.sheet.specs.declared.Values.{Values}
 use Rattle.sheet.specs.declared.Config.{Config}
 use Rattle.sheet.specs.declared.Move.{Move}
 use Rattle.sheet.specs.declared.Move.the-variants.{Barred, Open}
-use Rattle.sheet.specs.declared.Rules.{Rules}
 use Rattle.sheet.specs.declared.RegionMove.{RegionMove}
-use Rattle.sheet.specs.Layout.{countersOf, actionsOf, regionsOf, moveSize, regionSize, regionPlace, movePlace, lowPlace, highPlace, rulePlace, startState, startValue, stateAt, kindOf, sourceOf, factorOf, offsetOf}
+use Rattle.sheet.specs.Layout.{countersOf, actionsOf, moveSize, regionSize, regionPlace, movePlace, lowPlace, highPlace, rulePlace, startState, startValue, stateAt, kindOf, sourceOf, factorOf, offsetOf}
 use Rattle.sheet.specs.Decode.{rangeAt, ruleOf, ruleAt}
-use Rattle.sheet.specs.Shape.{Shaped, regionSize-le, moveSize-le, region-end, bound-end, move-end, header-end, length-le, rule-end}
+use Rattle.sheet.specs.Shape.{regionSize-le, moveSize-le, region-end, bound-end, move-end, header-end, length-le, rule-end}
 use Rattle.sheet.specs.Three.{Read, padded, padded-in, padded-out, zeroRange, zeroRule, boxThree, startPadded, startThree, kindNamed, moveThree}
 
 module _ {s : List ℕ} {shape : Shape} (R : Read s shape) where

@@ -1,21 +1,19 @@
 -- How the code's structs of three counters stand for the model's lists: the first V of the three count, and a counter that the sheet
 -- lacks has the value 0, the range 0..0 and the rule "set to 0".
-use mathlib.Core.Path.{_≡_, refl, sym, ap, subst, _∙_}
-use mathlib.Core.Logic.{_↔_, _⊎_, inl, inr, ⊎-elim}
-use mathlib.Core.Bool.{Bool, true, false, cond, _&&_}
+use mathlib.Core.Path.{_≡_, refl, ap}
+use mathlib.Core.Bool.{Bool, true, false, cond}
 use mathlib.Core.List.{List, [], _∷_}
-use Prim.Native.Nat.{ℕ, zero, suc, _+_, _*_, _≤_, _<_}
+use Prim.Native.Nat.{ℕ, zero, suc, _≤_, _<_}
 use native.Mathlib.Omega.{arith}
-use lib.Dec.{T, eqb, ltb}
-use lib.ListN.{length, getD, take, drop}
+use lib.Dec.{eqb, ltb}
+use lib.ListN.{getD, take}
 use lib.IntN.{ℤ, pos}
-use borrow.Author.Tests.{lt-ltb, le-ltb, eqb-true, eqb-false}
+use borrow.Author.Tests.{lt-ltb, le-ltb}
 use Rattle.integers.specs.declared.Range.{Range}
-use Rattle.integers.specs.Range.{contains}
 use Rattle.systems.specs.Lists.{collect}
 use Rattle.model.specs.declared.Rule.{Rule}
-use Rattle.model.specs.declared.Rule.the-variants.{Set, Carry}
-use Rattle.model.specs.Sheet.{Configuration, Box, within, inBox, applied, updated, landing, Move as ModelMove, Barred as barred, Open as opened}
+use Rattle.model.specs.declared.Rule.the-variants.{Set}
+use Rattle.model.specs.Sheet.{Configuration, Box, Move as ModelMove, Barred as barred, Open as opened}
 use Rattle.sheet.specs.declared.Shape.{Shape}
 use Rattle.sheet.specs.declared.Ranges.{Ranges}
 use Rattle.sheet.specs.declared.RegionBox.{RegionBox}
@@ -25,8 +23,8 @@ use Rattle.sheet.specs.declared.Move.{Move}
 use Rattle.sheet.specs.declared.Move.the-variants.{Barred, Open}
 use Rattle.sheet.specs.declared.Rules.{Rules}
 use Rattle.sheet.specs.declared.RegionMove.{RegionMove}
-use Rattle.sheet.specs.Layout.{countersOf, actionsOf, regionsOf, startState, startValue, stateAt, kindOf, movePart}
-use Rattle.sheet.specs.Decode.{listed, rangeAt, boxAt, ruleAt, moveOf, moveAt, startOf}
+use Rattle.sheet.specs.Layout.{countersOf, actionsOf, regionsOf, startState, startValue, stateAt, kindOf}
+use Rattle.sheet.specs.Decode.{listed, rangeAt, boxAt, ruleAt, moveOf, startOf}
 use Rattle.sheet.specs.Shape.{Shaped}
 
 -- the counts of a sheet, in the code's struct

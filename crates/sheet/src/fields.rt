@@ -1,10 +1,9 @@
 // The fields of a sheet that passed checks 1 to 3, read from its bytes.
 ghost use mathlib.Core.Path.{_≡_};
-ghost use Prim.Native.Nat.{_+_, _*_, _<_, _≤_};
+ghost use Prim.Native.Nat.{_<_, _≤_};
 ghost use lib.ListN.{length};
-ghost use Rattle.sheet.specs.Layout.{moveSize, regionSize, regionPlace, movePlace, lowPlace};
+ghost use Rattle.sheet.specs.Layout.{moveSize, regionSize, regionPlace, movePlace};
 ghost use Rattle.sheet.specs.Decode.{rangeAt, ruleOf, ruleAt};
-ghost use Rattle.sheet.specs.Shape.{Shaped};
 ghost use Rattle.sheet.specs.Three.{Read, shapeOf, padded, zeroRange, zeroRule, boxThree, startThree, startPadded, moveThree};
 use crate::Config;
 use crate::Move;

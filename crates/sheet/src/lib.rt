@@ -3,6 +3,10 @@ use integers::Range;
 use model::Rule;
 
 pub mod fields;
+mod header;
+pub mod landing;
+mod limits;
+pub mod regions;
 pub mod space;
 
 // The three counts of a sheet: V, A and R.

@@ -1,5 +1,4 @@
 use mathlib.Core.Path.{refl}
-use native.Mathlib.Omega.{arith}
 use Rattle.sheet.specs.Layout.{moveSize}
 use borrow.Author.Needs.{needs}
 use Rattle.sheet.proofs.fields.move_size.Statement.{statement}

@@ -1,7 +1,6 @@
 use native.Mathlib.Omega.{arith}
 use mathlib.Core.Path.{ap}
 use Prim.Native.Nat.{ℕ, _*_, _+_}
-use native.Mathlib.Nat.{mul-le-mul-left}
 use Rattle.sheet.specs.Layout.{regionSize}
 use Rattle.sheet.specs.Shape.{moves-le}
 use borrow.Author.Needs.{needs}
