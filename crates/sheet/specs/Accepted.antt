@@ -30,10 +30,10 @@ use Rattle.sheet.specs.Overlap.{overlap-out, regions-apart}
 use Rattle.sheet.specs.Fits.{each-listed, bytes-drop, moves-fit, range-fits}
 use Rattle.sheet.specs.Landing.{Passed}
 
-demanded : (t : Bool) (n p : ℕ) → demand t n p ≡ Fine → T t
+pub demanded : (t : Bool) (n p : ℕ) → demand t n p ≡ Fine → T t
 demanded t n p e = true-is t (demand-fine t n p e)
 
-between : (m n x : ℕ) → T (from-to m n x) → (m ≤ x) × (x ≤ n)
+pub between : (m n x : ℕ) → T (from-to m n x) → (m ≤ x) × (x ≤ n)
 between m n x t = let (a, b) = both (leb m x) (leb x n) .0 t in (leb→le m x a, leb→le x n b)
 
 -- checks 2 and 3 passed

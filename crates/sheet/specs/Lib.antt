@@ -16,3 +16,4 @@ pub mod Bounded
 pub mod Shares
 pub mod Accepted
 pub mod Regions
+pub mod Whole

@@ -36,8 +36,8 @@ factorRight p = elim (eqb (kindOf p) 0) [ true ↦ near 0 (factorOf p) | false �
 unfoldable pub checkOne : ℕ → List ℕ → ℕ → ℕ → Checked
 checkOne V# p at v =
     elim (eqb (kindOf p) 0) [
-      true ↦ checkZeroRule (drop (rulePlace v) p) (at + rulePlace v)
-    | false ↦ checkRule V# (drop (rulePlace v) p) (at + rulePlace v)
+      | true ↦ checkZeroRule (drop (rulePlace v) p) (at + rulePlace v)
+      | false ↦ checkRule V# (drop (rulePlace v) p) (at + rulePlace v)
     ]
 
 -- the bounds and the moves of a region

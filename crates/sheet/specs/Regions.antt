@@ -75,7 +75,7 @@ pub start-stage : {s : List ℕ} {shape : Shape} (R : Read s shape) {r : Checked
 unfolding checkStart
 start-stage {s} {shape} R {r} {x} {i} e h k =
     let y : configMeant (shape .counters) x ≡ startOf s =
-        ap (λ (n : ℕ). configMeant n x) (R .counters-are) ∙ ap (configMeant (countersOf s)) e ∙ start-meant s (R .shaped) in
+    ap (λ (n : ℕ). configMeant n x) (R .counters-are) ∙ ap (configMeant (countersOf s)) e ∙ start-meant s (R .shaped) in
     k
     ∙ ap (λ (m : ℕ). demand (ltb m (shape .regions)) 7 8) (h ∙ ap (regionNumber (decode s)) y)
     ∙ ap (λ (m : ℕ). demand (ltb (regionNumber (decode s) (startOf s)) m) 7 8) (R .regions-are)
@@ -86,6 +86,7 @@ start-stage {s} {shape} R {r} {x} {i} e h k =
         let n = regions-count s in
         let l = ltb→lt (regionNumber (decode s) (startOf s)) (regionsOf s) t in
         covered-is s (startOf s) .1 (omega arith)
+
     from : T (covered s (startOf s)) → T (ltb (regionNumber (decode s) (startOf s)) (regionsOf s))
     from t =
         let n = regions-count s in

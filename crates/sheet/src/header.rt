@@ -4,10 +4,9 @@ ghost use Prim.Native.Nat.{_≤_};
 ghost use lib.ListN.{length, take};
 ghost use Rattle.sheet.specs.Layout.{countersOf, actionsOf, regionsOf, sheetMark};
 ghost use Rattle.sheet.specs.Check.{sameBytes, from-to, checkHeader, checkCounts, checkLength};
-
+use crate::fields::region_size;
 use answers::Checked;
 use answers::demanded;
-use crate::fields::region_size;
 
 // Whether mark and version are right.
 fn has_mark(s: &[u8]) -> bool

@@ -1,4 +1,9 @@
 // Sheets as bytes (document 01, "The sheet, mark MSH"): checking one, and running an action sequence on it.
+ghost use mathlib.Core.Path.{_≡_};
+ghost use Rattle.sheet.specs.Check.{sheetCheck};
+ghost use Rattle.sheet.specs.Whole.{contentsCheck};
+ghost use Rattle.sheet.specs.Three.{Read};
+use answers::Checked;
 use integers::Range;
 use model::Rule;
 
@@ -60,4 +65,47 @@ pub struct RegionMove {
     pub kind: Move,
     pub target: u8,
     pub rules: Rules,
+}
+
+// 4 to 8, of a sheet that passed 1 to 3.
+fn check_contents(s: &[u8], shape: Shape) -> Checked
+    requires { ⌜ Read (now s) shape ⌝ }
+    ensures { λ r. ⌜ r ≡ contentsCheck (now (s .entry)) ⌝ }
+{
+    let limits = limits::check_limits(s, shape);
+    let Checked::Fine = limits else {
+        return limits;
+    };
+    let labels = regions::check_labels(s, shape);
+    let Checked::Fine = labels else {
+        return labels;
+    };
+    let overlaps = regions::check_overlaps(s, shape);
+    let Checked::Fine = overlaps else {
+        return overlaps;
+    };
+    let start = regions::check_start(s, shape);
+    let Checked::Fine = start else {
+        return start;
+    };
+    landing::check_landing(s, shape)
+}
+
+// The check of a sheet: accepted when it passes 1 to 8.
+pub fn check(s: &[u8]) -> Checked
+    ensures { λ r. ⌜ r ≡ sheetCheck (now (s .entry)) ⌝ }
+{
+    let header = header::check_header(s);
+    let Checked::Fine = header else {
+        return header;
+    };
+    let counts = header::check_counts(s);
+    let Checked::Fine = counts else {
+        return counts;
+    };
+    let length = header::check_length(s);
+    let Checked::Fine = length else {
+        return length;
+    };
+    check_contents(s, fields::shape_of(s))
 }

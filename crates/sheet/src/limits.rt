@@ -7,13 +7,12 @@ ghost use Rattle.sheet.specs.Layout.{countersOf, actionsOf, regionsOf, m
 ghost use Rattle.sheet.specs.Check.{near, checkRule, checkZeroRule, checkMove, checkFields};
 ghost use Rattle.sheet.specs.Three.{Read};
 ghost use Rattle.sheet.specs.Limits.{sourceRight, factorRight, checkOne, checkBounds, checkMoves};
-
-use answers::Checked;
-use answers::demanded;
 use crate::Shape;
 use crate::fields::move_place;
 use crate::fields::range_at;
 use crate::fields::region_place;
+use answers::Checked;
+use answers::demanded;
 use integers::Range;
 use integers::bytes::signed8;
 use integers::bytes::signed32;

@@ -10,14 +10,13 @@ ghost use Rattle.sheet.specs.Layout.{countersOf, regionsOf, labelAt, sta
 ghost use Rattle.sheet.specs.Decode.{rangeAt};
 ghost use Rattle.sheet.specs.Check.{overlap, checkLabel, checkOverlap, checkStart};
 ghost use Rattle.sheet.specs.Three.{Read};
-
-use answers::Checked;
-use answers::demanded;
 use crate::Shape;
 use crate::fields::range_at;
 use crate::fields::region_place;
 use crate::fields::start_of;
 use crate::space::region_of;
+use answers::Checked;
+use answers::demanded;
 use integers::bytes::unsigned16;
 use integers::ranges::common;
 use integers::ranges::is_vacant;

@@ -40,10 +40,11 @@ loop-less c = omega arith
 loop-again : tie.Need-loop-again Inv-loop μ-loop
 loop-again c =
     let start = c .before .before .before .before .before .before in
-    let s = start .args .s .now in
-    (omega arith,
-    below-more _ _ (c .before .before .before .loop .inv .1)
-    (other-label s (c .before .before .before .loop .i) (start .args .j) (c .before .label-at2 .result) (c .before .before .before .before .label-at .result) (c .before .label-at2 .ensures) (c .before .before .before .before .label-at .ensures) (c .if1 .left)))
+    let s = start .args .s .now in (
+      omega arith,
+      below-more _ _ (c .before .before .before .loop .inv .1)
+          (other-label s (c .before .before .before .loop .i) (start .args .j) (c .before .label-at2 .result) (c .before .before .before .before .label-at .result) (c .before .label-at2 .ensures) (c .before .before .before .before .label-at .ensures) (c .if1 .left)),
+    )
 
 returns-2 : tie.Need-returns-2 Inv-loop μ-loop
 returns-2 c =

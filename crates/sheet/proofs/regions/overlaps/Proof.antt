@@ -1,30 +1,26 @@
+use Rattle.sheet.specs.Regions.{overlap-same, overlap-other}
 use borrow.Author.Needs.{needs}
 use Rattle.sheet.proofs.regions.overlaps.Statement.{statement}
 use Rattle.sheet.proofs.regions.overlaps.Tie as tie
-use Rattle.sheet.proofs.regions.overlaps.Reads as reads
-use Rattle.sheet.proofs.regions.overlaps.Lts as lts
-use Rattle.sheet.proofs.regions.ranges_meet.Reads as ranges-meet-reads
-use Rattle.sheet.proofs.regions.state_at.Reads as state-at-reads
 
--- src/regions.rt:84:9
 state-at-requires : tie.Need-state-at-requires
 state-at-requires c κs = search needs
 
--- src/regions.rt:85:9
 state-at-requires-2 : tie.Need-state-at-requires-2
 state-at-requires-2 c κs = search needs
 
--- src/regions.rt:87:9
 ranges-meet-requires : tie.Need-ranges-meet-requires
 ranges-meet-requires c κs = search needs
 
--- src/regions.rt:79:1
 returns : tie.Need-returns
-returns c = ?
+returns c =
+    let start = c .before .before .before .before .before in
+    overlap-same (start .args .s .now) (start .args .i) (start .args .j) (c .before .before .before .state-at .result) (c .before .before .state-at2 .result) (c .before .before .before .state-at .ensures) (c .before .before .state-at2 .ensures) (c .before .if1 .taken) (c .ranges-meet .ensures)
 
--- src/regions.rt:79:1
 returns-2 : tie.Need-returns-2
-returns-2 c = ?
+returns-2 c =
+    let start = c .before .before .before .before in
+    overlap-other (start .args .s .now) (start .args .i) (start .args .j) (c .before .before .state-at .result) (c .before .state-at2 .result) (c .before .before .state-at .ensures) (c .before .state-at2 .ensures) (c .if1 .left)
 
 pub overlaps-spec : {M : Type 1} → statement M
 overlaps-spec =
