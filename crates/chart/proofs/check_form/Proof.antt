@@ -1,0 +1,86 @@
+use mathlib.Core.Path.{sym, _∙_}
+use Rattle.answers.specs.Stages.{andThen, passed, handed}
+use Rattle.chart.specs.Check.{targetsCheck, numbersCheck, barsCheck, formCheck}
+use Rattle.chart.specs.Header.{header-passed}
+use borrow.Author.Needs.{needs}
+use Rattle.chart.proofs.check_form.Statement.{statement}
+use Rattle.chart.proofs.check_form.Tie as tie
+
+check-header-requires : tie.Need-check-header-requires
+check-header-requires c κs = search needs
+
+enum-told : tie.Need-enum-told
+enum-told c = search needs
+
+enum-told-2 : tie.Need-enum-told-2
+enum-told-2 c = search needs
+
+returns : tie.Need-returns
+unfolding formCheck
+returns c =
+    let s = c .before .before .before .before .args .c .now in
+    let e = c .before .before .check-header .ensures in
+    e ∙ handed (andThen (targetsCheck s) (andThen (numbersCheck s) (barsCheck s))) (sym e ∙ c .enum-told2 .given .1)
+
+check-targets-requires : tie.Need-check-targets-requires
+check-targets-requires c κs = header-passed (c .before .before .before .before .args .c .now) (sym (c .before .before .check-header .ensures) ∙ c .enum-told .given .1) .1
+
+enum-told-3 : tie.Need-enum-told-3
+enum-told-3 c = search needs
+
+enum-told-4 : tie.Need-enum-told-4
+enum-told-4 c = search needs
+
+returns-2 : tie.Need-returns-2
+unfolding formCheck
+returns-2 c =
+    let s = c .before .before .before .before .before .before .before .args .c .now in
+    let e = c .before .before .check-targets .ensures in
+    passed (sym (c .before .before .before .before .before .check-header .ensures) ∙ c .before .before .before .enum-told .given .1)
+    (e ∙ handed (andThen (numbersCheck s) (barsCheck s)) (sym e ∙ c .enum-told4 .given .1))
+
+check-numbers-requires : tie.Need-check-numbers-requires
+check-numbers-requires c κs = header-passed (c .before .before .before .before .before .before .before .args .c .now) (sym (c .before .before .before .before .before .check-header .ensures) ∙ c .before .before .before .enum-told .given .1) .1
+
+enum-told-5 : tie.Need-enum-told-5
+enum-told-5 c = search needs
+
+enum-told-6 : tie.Need-enum-told-6
+enum-told-6 c = search needs
+
+returns-3 : tie.Need-returns-3
+unfolding formCheck
+returns-3 c =
+    let s = c .before .before .before .before .before .before .before .before .before .before .args .c .now in
+    let e = c .before .before .check-numbers .ensures in
+    passed (sym (c .before .before .before .before .before .before .before .before .check-header .ensures) ∙ c .before .before .before .before .before .before .enum-told .given .1)
+    (passed (sym (c .before .before .before .before .before .check-targets .ensures) ∙ c .before .before .before .enum-told3 .given .1) (e ∙ handed (barsCheck s) (sym e ∙ c .enum-told6 .given .1)))
+
+check-bars-requires : tie.Need-check-bars-requires
+check-bars-requires c κs = header-passed (c .before .before .before .before .before .before .before .before .before .before .args .c .now) (sym (c .before .before .before .before .before .before .before .before .check-header .ensures) ∙ c .before .before .before .before .before .before .enum-told .given .1) .1
+
+returns-4 : tie.Need-returns-4
+unfolding formCheck
+returns-4 c =
+    passed (sym (c .before .before .before .before .before .before .before .before .before .check-header .ensures) ∙ c .before .before .before .before .before .before .before .enum-told .given .1)
+    (passed (sym (c .before .before .before .before .before .before .check-targets .ensures) ∙ c .before .before .before .before .enum-told3 .given .1)
+    (passed (sym (c .before .before .before .check-numbers .ensures) ∙ c .before .enum-told5 .given .1) (c .check-bars .ensures)))
+
+pub check-form-spec : {M : Type 1} → statement M
+check-form-spec =
+    tie.close
+    (tie.spec
+    check-header-requires
+    enum-told
+    enum-told-2
+    returns
+    check-targets-requires
+    enum-told-3
+    enum-told-4
+    returns-2
+    check-numbers-requires
+    enum-told-5
+    enum-told-6
+    returns-3
+    check-bars-requires
+    returns-4)

@@ -1,0 +1,362 @@
+-- A chart is accepted exactly where it obeys the chart rules.
+use mathlib.Core.Path.{_≡_, refl, sym, ap, subst, _∙_}
+use mathlib.Core.Logic.{_↔_, _⊎_, inl, inr, ⊎-elim, Equivalence}
+use mathlib.Core.Bool.{Bool, true, false, not, _||_, _&&_}
+use mathlib.Core.List.{List}
+use mathlib.Core.Option.{Option, some, none}
+use Prim.Native.Nat.{ℕ, zero, suc, _+_, _≤_, _<_}
+use native.Mathlib.Omega.{arith}
+use native.Mathlib.Nat.{eq-or-lt-of-le}
+use native.Mathlib.Decide.{decLe, ℕ-discrete}
+use lib.Dec.{T, eqb, ltb, leb}
+use lib.ListN.{length, getD, take}
+use lib.Seq.{ext-getD, getD-take, length-take-le}
+use borrow.Author.Tests.{ltb-true, leb-true, eqb-true, lt-ltb, le-leb, eq-eqb, ne-eqb}
+use Rattle.systems.specs.Search.{run, all, least}
+use Rattle.systems.specs.Laws.{true-is, is-true, both, all-true, Least, least-least, least-lt}
+use Rattle.answers.specs.declared.Checked.{Checked}
+use Rattle.answers.specs.declared.Checked.the-variants.{Fine, Refused}
+use Rattle.answers.specs.Stages.{andThen, demand, each, passed, then-fine, demand-fine, each-fine, each-all}
+use Rattle.model.specs.Blocks.{chartMark}
+use Rattle.model.specs.Chart.{actionsOf, blocksOf, recordAt, labelOf, targetOf, nextIn, nextUnnamed, sameTarget, refines, roundClass, ToldApart, ChartRules}
+use Rattle.model.specs.Rounds.{TargetsRight, least-tells, eqb-tells, rounds-told}
+use Rattle.chart.specs.Check.{targetAt, marked, markCheck, countCheck, lengthCheck, headerCheck, targetCheck, targetsCheck, recordCheck, orderCheck, numberCheck, numbersCheck, sameBar, sameBars, barCheck, barsCheck, classCheck, classesCheck, formCheck, chartCheck}
+use Rattle.chart.specs.Shape.{Shaped, record-start}
+use Rattle.chart.specs.Loops.{demand-yes, or-first, or-second, and-both}
+use Rattle.chart.specs.Header.{mark-good, counts-good, length-good, header-passed}
+use Rattle.chart.specs.Classes.{same-barred, same-opened, same-classed}
+
+or-true : (a b : Bool) → (a || b) ≡ true → (a ≡ true) ⊎ (b ≡ true)
+or-true true b e = inl refl
+or-true false b e = inr e
+
+-- a demand passes exactly where its test does
+demand-pass : {t : Bool} (n p : ℕ) → t ≡ true → demand t n p ≡ Fine
+demand-pass n p e = sym (demand-yes n p e)
+
+-- mark and version
+mark-take : (c : List ℕ) → 7 ≤ length c → (marked c ≡ true) ↔ (take 5 c ≡ chartMark)
+unfolding marked
+mark-take c h = (
+  λ e.
+      let t = all-true (λ k. eqb (getD c k 0) (getD chartMark k 0)) 5 .0 (true-is (marked c) e) in
+      ext-getD 0 (take 5 c) chartMark (length-take-le 5 c (omega arith))
+      (λ i l.
+      let b : i < 5 = omega (arith, length-take-le 5 c (omega arith)) in
+      getD-take 5 c i 0 b ∙ eqb-tells (getD c i 0) (getD chartMark i 0) .0 (t i b)),
+  λ e.
+      is-true (marked c)
+      (all-true (λ k. eqb (getD c k 0) (getD chartMark k 0)) 5 .1
+      (λ i l. eqb-tells (getD c i 0) (getD chartMark i 0) .1 (sym (getD-take 5 c i 0 l) ∙ ap (λ (x : List ℕ). getD x i 0) e))),
+)
+
+-- 4
+pub targets-right : (c : List ℕ) → (targetsCheck c ≡ Fine) ↔ TargetsRight c
+unfolding targetsCheck targetCheck
+targets-right c = (
+  λ e i a hi ha.
+      ⊎-elim
+      (λ q. inr (eqb-true (targetOf c i a) 255 q))
+      (λ q. inl (ltb-true (targetOf c i a) (blocksOf c) q))
+      (or-true (eqb (targetOf c i a) 255) (ltb (targetOf c i a) (blocksOf c))
+      (demand-fine (eqb (targetOf c i a) 255 || ltb (targetOf c i a) (blocksOf c)) 4 (targetAt c i a)
+      (each-fine (targetCheck c i) (actionsOf c) (each-fine (λ i. each (targetCheck c i) (actionsOf c)) (blocksOf c) e i hi) a ha))),
+  λ r.
+      each-all (λ i. each (targetCheck c i) (actionsOf c)) (blocksOf c)
+      (λ i hi.
+      each-all (targetCheck c i) (actionsOf c)
+      (λ a ha.
+      demand-pass 4 (targetAt c i a)
+      (⊎-elim
+      (λ q. or-second (eqb (targetOf c i a) 255) (lt-ltb (targetOf c i a) (blocksOf c) q))
+      (λ q. or-first (ltb (targetOf c i a) (blocksOf c)) (eq-eqb (targetOf c i a) 255 q))
+      (r i a hi ha)))),
+)
+
+-- 12
+pub record Numbered (c : List ℕ) : Type 0 where
+  pub in-order : (i a : ℕ) → i < blocksOf c → a < actionsOf c → (targetOf c i a ≡ 255) ⊎ (targetOf c i a ≤ nextIn c i (nextUnnamed c i) a)
+  pub before : (i : ℕ) → 1 ≤ i → i < blocksOf c → i < nextUnnamed c i
+
+pub numbers-right : (c : List ℕ) → (numbersCheck c ≡ Fine) ↔ Numbered c
+unfolding numbersCheck numberCheck recordCheck orderCheck
+numbers-right c = (λ e. record { in-order = order e; before = named e }, λ r. each-all (λ i. numberCheck c i (nextUnnamed c i)) (blocksOf c) (λ i hi. back r i hi))
+  where
+    orders : ℕ → ℕ → Checked
+    orders i a = orderCheck c i a (nextIn c i (nextUnnamed c i) a)
+
+    parts : numbersCheck c ≡ Fine → (i : ℕ) → i < blocksOf c → (recordCheck c i (nextUnnamed c i) ≡ Fine) × (each (orders i) (actionsOf c) ≡ Fine)
+    parts e i hi =
+        then-fine (recordCheck c i (nextUnnamed c i)) (each (orders i) (actionsOf c))
+        (each-fine (λ i. numberCheck c i (nextUnnamed c i)) (blocksOf c) e i hi)
+
+    order : numbersCheck c ≡ Fine → (i a : ℕ) → i < blocksOf c → a < actionsOf c
+        → (targetOf c i a ≡ 255) ⊎ (targetOf c i a ≤ nextIn c i (nextUnnamed c i) a)
+    order e i a hi ha =
+        ⊎-elim
+        (λ q. inl (eqb-true (targetOf c i a) 255 q))
+        (λ q. inr (leb-true (targetOf c i a) (nextIn c i (nextUnnamed c i) a) q))
+        (or-true (eqb (targetOf c i a) 255) (leb (targetOf c i a) (nextIn c i (nextUnnamed c i) a))
+        (demand-fine (eqb (targetOf c i a) 255 || leb (targetOf c i a) (nextIn c i (nextUnnamed c i) a)) 12 (targetAt c i a)
+        (each-fine (orders i) (actionsOf c) (parts e i hi .1) a ha)))
+
+    named : numbersCheck c ≡ Fine → (i : ℕ) → 1 ≤ i → i < blocksOf c → i < nextUnnamed c i
+    named e i h hi =
+        ⊎-elim
+        (λ q. let z = eqb-true i 0 q in absurd (omega arith))
+        (λ q. ltb-true i (nextUnnamed c i) q)
+        (or-true (eqb i 0) (ltb i (nextUnnamed c i)) (demand-fine (eqb i 0 || ltb i (nextUnnamed c i)) 12 (recordAt c i) (parts e i hi .0)))
+
+    first : Numbered c → (i : ℕ) → i < blocksOf c → Dec (i ≡ 0) → (eqb i 0 || ltb i (nextUnnamed c i)) ≡ true
+    first r i hi (yes e) = or-first (ltb i (nextUnnamed c i)) (eq-eqb i 0 e)
+    first r i hi (no n) = or-second (eqb i 0) (lt-ltb i (nextUnnamed c i) (r .before i (omega arith) hi))
+
+    back : Numbered c → (i : ℕ) → i < blocksOf c → numberCheck c i (nextUnnamed c i) ≡ Fine
+    back r i hi =
+        sym
+        (passed (demand-pass 12 (recordAt c i) (first r i hi (ℕ-discrete i 0)))
+        (sym
+        (each-all (orders i) (actionsOf c)
+        (λ a ha.
+        demand-pass 12 (targetAt c i a)
+        (⊎-elim
+        (λ q. or-first (leb (targetOf c i a) (nextIn c i (nextUnnamed c i) a)) (eq-eqb (targetOf c i a) 255 q))
+        (λ q. or-second (eqb (targetOf c i a) 255) (le-leb (targetOf c i a) (nextIn c i (nextUnnamed c i) a) q))
+        (r .in-order i a hi ha))))))
+
+-- 13
+sameBar-tells : (t u : ℕ) → (sameBar t u ≡ true) ↔ ((t ≡ 255) ↔ (u ≡ 255))
+unfolding sameBar
+sameBar-tells t u = go (ℕ-discrete t 255) (ℕ-discrete u 255)
+  where
+    go : Dec (t ≡ 255) → Dec (u ≡ 255) → (sameBar t u ≡ true) ↔ ((t ≡ 255) ↔ (u ≡ 255))
+    go (yes p) (yes q) = rw (eq-eqb t 255 p, eq-eqb u 255 q, sameBar) (λ e. (λ h. q, λ h. p), λ h. refl)
+    go (yes p) (no q) =
+        rw (eq-eqb t 255 p, ne-eqb u 255 q, sameBar) (λ e. let z : _≡_ {A = ℕ} 0 1 = cc in absurd (omega arith), λ h. absurd (q (h .0 p)))
+    go (no p) (yes q) =
+        rw (ne-eqb t 255 p, eq-eqb u 255 q, sameBar) (λ e. let z : _≡_ {A = ℕ} 0 1 = cc in absurd (omega arith), λ h. absurd (p (h .1 q)))
+    go (no p) (no q) = rw (ne-eqb t 255 p, ne-eqb u 255 q, sameBar) (λ e. (λ h. absurd (p h), λ h. absurd (q h)), λ h. refl)
+
+abbrev pub BarsAlike : List ℕ → Type 0
+BarsAlike c = (i j a : ℕ) → i < j → j < blocksOf c → a < actionsOf c → labelOf c i ≡ labelOf c j → (targetOf c i a ≡ 255) ↔ (targetOf c j a ≡ 255)
+
+pub bars-right : (c : List ℕ) → (barsCheck c ≡ Fine) ↔ BarsAlike c
+unfolding barsCheck barCheck sameBars
+bars-right c = (
+  λ e i j a h hj ha l.
+      ⊎-elim
+      (λ q. let z = ap not (eq-eqb (labelOf c i) (labelOf c j) l) in let y : _≡_ {A = ℕ} 0 1 = cc in absurd (omega arith))
+      (λ q.
+      sameBar-tells (targetOf c i a) (targetOf c j a) .0
+      (is-true (sameBar (targetOf c i a) (targetOf c j a)) (all-true (bars i j) (actionsOf c) .0 (true-is (all (bars i j) (actionsOf c)) q) a ha)))
+      (or-true (not (eqb (labelOf c i) (labelOf c j))) (sameBars c i j)
+      (demand-fine (not (eqb (labelOf c i) (labelOf c j)) || sameBars c i j) 13 (recordAt c j)
+      (each-fine (barCheck c j) j (each-fine (λ j. each (barCheck c j) j) (blocksOf c) e j hj) i h))),
+  λ r.
+      each-all (λ j. each (barCheck c j) j) (blocksOf c)
+      (λ j hj. each-all (barCheck c j) j (λ i h. demand-pass 13 (recordAt c j) (back r i j h hj (ℕ-discrete (labelOf c i) (labelOf c j))))),
+)
+  where
+    bars : ℕ → ℕ → ℕ → Bool
+    bars i j a = sameBar (targetOf c i a) (targetOf c j a)
+
+    back : BarsAlike c → (i j : ℕ) → i < j → j < blocksOf c → Dec (labelOf c i ≡ labelOf c j) → (not (eqb (labelOf c i) (labelOf c j)) || sameBars c i j) ≡ true
+    back r i j h hj (yes l) =
+        or-second (not (eqb (labelOf c i) (labelOf c j)))
+        (is-true (all (bars i j) (actionsOf c))
+        (all-true (bars i j) (actionsOf c) .1
+        (λ a ha. true-is (bars i j a) (sameBar-tells (targetOf c i a) (targetOf c j a) .1 (r i j a h hj ha l)))))
+    back r i j h hj (no n) = or-first (sameBars c i j) (ap not (ne-eqb (labelOf c i) (labelOf c j) n))
+
+-- what a table of classes knows of a target
+classOf : (ℕ → ℕ) → ℕ → Option ℕ
+classOf f t = elim (eqb t 255) [ true ↦ none | false ↦ some (f t) ]
+
+class-barred : (f : ℕ → ℕ) (t : ℕ) → t ≡ 255 → classOf f t ≡ none
+unfolding classOf
+class-barred f t e = rw (eq-eqb t 255 e, classOf)
+
+class-open : (f : ℕ → ℕ) (t : ℕ) → (t ≡ 255 → ⊥) → classOf f t ≡ some (f t)
+unfolding classOf
+class-open f t n = rw (ne-eqb t 255 n, classOf)
+
+target-classes : (f : ℕ → ℕ) (t u : ℕ) → T (sameTarget f t u) ↔ (classOf f t ≡ classOf f u)
+target-classes f t u = go (ℕ-discrete t 255) (ℕ-discrete u 255)
+  where
+    go : Dec (t ≡ 255) → Dec (u ≡ 255) → T (sameTarget f t u) ↔ (classOf f t ≡ classOf f u)
+    go (yes p) (yes q) =
+        rw (sym (same-barred f t u p) ∙ eq-eqb u 255 q, class-barred f t p, class-barred f u q) (λ e. refl, λ e. tt)
+    go (yes p) (no q) =
+        rw (sym (same-barred f t u p) ∙ ne-eqb u 255 q, class-barred f t p, class-open f u q)
+        (λ e. absurd e, λ e. let z : _≡_ {A = ℕ} 0 1 = cc in absurd (omega arith))
+    go (no p) (yes q) =
+        rw (sym (same-opened f t u p q), class-open f t p, class-barred f u q)
+        (λ e. absurd e, λ e. let z : _≡_ {A = ℕ} 0 1 = cc in absurd (omega arith))
+    go (no p) (no q) =
+        rw (sym (same-classed f t u p q), class-open f t p, class-open f u q)
+        (λ e. ap some (eqb-tells (f t) (f u) .0 e), λ e. eqb-tells (f t) (f u) .1 (cc))
+
+-- two blocks agree in f and, action by action, in f of their targets
+record Agree (c : List ℕ) (f : ℕ → ℕ) (i j : ℕ) : Type 0 where
+  self : f i ≡ f j
+  targets : (a : ℕ) → a < actionsOf c → classOf f (targetOf c i a) ≡ classOf f (targetOf c j a)
+
+agree-equivalence : (c : List ℕ) (f : ℕ → ℕ) → Equivalence (Agree c f)
+agree-equivalence c f =
+    record {
+      refl = λ i. record { self = refl; targets = λ a h. refl };
+      symm = λ i j p. record { self = sym (p .self); targets = λ a h. sym (p .targets a h) };
+      trans = λ i j k p q. record { self = p .self ∙ q .self; targets = λ a h. p .targets a h ∙ q .targets a h };
+    }
+
+agree-tells : (c : List ℕ) (f : ℕ → ℕ) (i j : ℕ) → T (refines c f i j) ↔ Agree c f i j
+unfolding refines
+agree-tells c f i j = (
+  λ t.
+      let (p, q) = both (eqb (f j) (f i)) (all at (actionsOf c)) .0 t in
+      record {
+        self = sym (eqb-tells (f j) (f i) .0 p);
+        targets = λ a h. sym (target-classes f (targetOf c j a) (targetOf c i a) .0 (all-true at (actionsOf c) .0 q a h));
+      },
+  λ r.
+      both (eqb (f j) (f i)) (all at (actionsOf c)) .1 (
+        eqb-tells (f j) (f i) .1 (sym (r .self)),
+        all-true at (actionsOf c) .1 (λ a h. target-classes f (targetOf c j a) (targetOf c i a) .1 (sym (r .targets a h))),
+      ),
+)
+  where
+    at : ℕ → Bool
+    at a = sameTarget f (targetOf c j a) (targetOf c i a)
+
+-- the least of a class is in it, and is its own least
+least-own : (q : ℕ → ℕ → Bool) (n : ℕ) (R : ℕ → ℕ → Type 0) → Equivalence R → ((i j : ℕ) → i < n → j < n → T (q i j) ↔ R i j)
+    → (j : ℕ) → j < n → (least (q j) n ≤ j) × (least (q (least (q j) n)) n ≡ least (q j) n)
+least-own q n R E t j h =
+    let r = t j j h h .1 (E .refl j) in
+    let l = least-least (q j) n in
+    let b = least-lt (q j) n j h r in
+    (le (decLe (least (q j) n) j) l r, sym (least-tells q n R E t j (least (q j) n) h b .1 (t j (least (q j) n) h b .0 (l .passes b))))
+  where
+    le : Dec (least (q j) n ≤ j) → Least (q j) n (least (q j) n) → T (q j j) → least (q j) n ≤ j
+    le (yes p) l r = p
+    le (no p) l r = absurd (l .first j (omega arith) r)
+
+-- a block's class after k rounds is the number of a block in it, no later than the block
+pub class-own : (c : List ℕ) (k j : ℕ) → j < blocksOf c → (roundClass c k j ≤ j) × (roundClass c k (roundClass c k j) ≡ roundClass c k j)
+unfolding roundClass
+class-own c zero j h =
+    least-own (λ i j. eqb (labelOf c j) (labelOf c i)) (blocksOf c) (λ i j. labelOf c j ≡ labelOf c i)
+    (record { refl = λ x. refl; symm = λ x y p. sym p; trans = λ x y z p q. q ∙ p })
+    (λ i j hi hj. eqb-tells (labelOf c j) (labelOf c i)) j h
+class-own c (suc k) j h =
+    least-own (refines c (roundClass c k)) (blocksOf c) (Agree c (roundClass c k)) (agree-equivalence c (roundClass c k))
+    (λ i j hi hj. agree-tells c (roundClass c k) i j) j h
+
+-- each block is the least of its class exactly where no two are in one class
+pub own-apart : (c : List ℕ) (k n : ℕ) → n ≤ blocksOf c
+    → ((j : ℕ) → j < n → roundClass c k j ≡ j) ↔ ((i j : ℕ) → i < j → j < n → roundClass c k i ≡ roundClass c k j → ⊥)
+own-apart c k n b = (
+  λ f i j h l e. let p = f i (omega arith) in let q = f j l in omega arith,
+  λ f j l. let (p, q) = class-own c k j (omega arith) in ⊎-elim (λ e. e) (λ h. absurd (f (roundClass c k j) j h l q)) (eq-or-lt-of-le p),
+)
+
+-- 14
+pub classes-own : (c : List ℕ) (n : ℕ) → (each (classCheck c (roundClass c (blocksOf c))) n ≡ Fine) ↔ ((j : ℕ) → j < n → roundClass c (blocksOf c) j ≡ j)
+unfolding classCheck
+classes-own c n = (
+  λ e j h.
+      eqb-true (roundClass c (blocksOf c) j) j
+      (demand-fine (eqb (roundClass c (blocksOf c) j) j) 14 (recordAt c j) (each-fine (classCheck c (roundClass c (blocksOf c))) n e j h)),
+  λ f. each-all (classCheck c (roundClass c (blocksOf c))) n (λ j h. demand-pass 14 (recordAt c j) (eq-eqb (roundClass c (blocksOf c) j) j (f j h))),
+)
+
+pub classes-right : (c : List ℕ) → blocksOf c ≤ 255 → TargetsRight c → (classesCheck c ≡ Fine) ↔ ((i j : ℕ) → i < j → j < blocksOf c → ToldApart c i j)
+unfolding classesCheck
+classes-right c few right = (
+  λ e i j h l.
+      rounds-told c few right i j (omega arith) l .1 (own-apart c (blocksOf c) (blocksOf c) (omega arith) .0 (classes-own c (blocksOf c) .0 e) i j h l),
+  λ f.
+      classes-own c (blocksOf c) .1
+      (own-apart c (blocksOf c) (blocksOf c) (omega arith) .1 (λ i j h l. rounds-told c few right i j (omega arith) l .0 (f i j h l))),
+)
+
+-- what a chart that passes all before 14 obeys
+pub record Formed (c : List ℕ) : Type 0 where
+  pub mark : marked c ≡ true
+  pub shape : Shaped c
+  pub targets : TargetsRight c
+  pub numbers : Numbered c
+  pub bars : BarsAlike c
+
+pub form-passed : (c : List ℕ) → formCheck c ≡ Fine → Formed c
+unfolding formCheck
+form-passed c e =
+    let (p, q) = then-fine (headerCheck c) (andThen (targetsCheck c) (andThen (numbersCheck c) (barsCheck c))) e in
+    let (r, s) = then-fine (targetsCheck c) (andThen (numbersCheck c) (barsCheck c)) q in
+    let (t, u) = then-fine (numbersCheck c) (barsCheck c) s in
+    let (m, h) = header-passed c p in
+    record { mark = m; shape = h; targets = targets-right c .0 r; numbers = numbers-right c .0 t; bars = bars-right c .0 u }
+
+pub form-passes : (c : List ℕ) → Formed c → formCheck c ≡ Fine
+unfolding formCheck headerCheck
+form-passes c f =
+    let s = f .shape in
+    let k : blocksOf c < 256 = omega (arith, s .blocks-few) in
+    let h = passed (sym (mark-good c (s .header) refl (f .mark)))
+    (passed (sym (counts-good c (s .actions-some) (s .actions-few) (s .blocks-some) k)) (length-right c s)) in
+    sym (passed (sym h) (passed (targets-right c .1 (f .targets)) (passed (numbers-right c .1 (f .numbers)) (sym (bars-right c .1 (f .bars))))))
+  where
+    length-right : (c : List ℕ) → Shaped c → Fine ≡ lengthCheck c
+    length-right c s = length-good c (s .length-right ∙ sym (record-start c (blocksOf c)))
+
+-- Accepted exactly where the chart rules hold.
+pub accepted : (c : List ℕ) → (chartCheck c ≡ Fine) ↔ ChartRules c
+unfolding chartCheck
+accepted c = (λ e. rules (then-fine (formCheck c) (classesCheck c) e), back)
+  where
+    rules : (formCheck c ≡ Fine) × (classesCheck c ≡ Fine) → ChartRules c
+    rules p =
+        let f = form-passed c (p .0) in
+        let s = f .shape in
+        record {
+          mark = mark-take c (s .header) .0 (f .mark);
+          actions-some = s .actions-some;
+          actions-few = s .actions-few;
+          blocks-some = s .blocks-some;
+          blocks-few = s .blocks-few;
+          length-right = s .length-right;
+          targets-right = f .targets;
+          named-in-order = f .numbers .in-order;
+          named-before = f .numbers .before;
+          bars-alike = f .bars;
+          told-apart = classes-right c (s .blocks-few) (f .targets) .0 (p .1);
+        }
+
+    shape : ChartRules c → Shaped c
+    shape r =
+        record {
+          header = omega (arith, r .length-right ∙ sym (record-start c (blocksOf c)));
+          actions-some = r .actions-some;
+          actions-few = r .actions-few;
+          blocks-some = r .blocks-some;
+          blocks-few = r .blocks-few;
+          length-right = r .length-right;
+        }
+
+    back : ChartRules c → andThen (formCheck c) (classesCheck c) ≡ Fine
+    back r =
+        let s = shape r in
+        let f : Formed c =
+        record {
+          mark = mark-take c (s .header) .1 (r .mark);
+          shape = s;
+          targets = r .targets-right;
+          numbers = record { in-order = r .named-in-order; before = r .named-before };
+          bars = r .bars-alike;
+        } in
+        sym (passed (form-passes c f) (sym (classes-right c (r .blocks-few) (r .targets-right) .1 (r .told-apart))))
+
+-- what the code needs of a chart that passed
+pub check-passed : (c : List ℕ) → chartCheck c ≡ Fine → Formed c
+unfolding chartCheck
+check-passed c e = form-passed c (then-fine (formCheck c) (classesCheck c) e .0)

@@ -1,0 +1,85 @@
+-- The check of a chart (document 01, "Turned back"): refusals 1, 2, 3, 4, 12, 13 and 14, each at the first place in file order.
+use mathlib.Core.Bool.{Bool, true, false, not, _||_, _&&_}
+use mathlib.Core.List.{List}
+use Prim.Native.Nat.{ℕ, _+_}
+use lib.Dec.{eqb, ltb, leb}
+use lib.ListN.{length, getD}
+use Rattle.systems.specs.Search.{all}
+use Rattle.answers.specs.declared.Checked.{Checked}
+use Rattle.answers.specs.Stages.{andThen, demand, each}
+use Rattle.model.specs.Blocks.{chartMark}
+use Rattle.model.specs.Chart.{actionsOf, blocksOf, recordAt, labelOf, targetOf, nextIn, nextUnnamed, roundClass}
+
+-- mark and version are right
+unfoldable pub marked : List ℕ → Bool
+marked c = all (λ k. eqb (getD c k 0) (getD chartMark k 0)) 5
+
+-- the byte of a target
+unfoldable pub targetAt : List ℕ → ℕ → ℕ → ℕ
+targetAt c i a = recordAt c i + 2 + a
+
+-- 1: shorter than the header, or wrong mark or version
+unfoldable pub markCheck : List ℕ → Checked
+markCheck c = demand (leb 7 (length c) && marked c) 1 0
+
+-- 2: a count outside its limits
+unfoldable pub countCheck : List ℕ → Checked
+countCheck c = andThen (demand (leb 1 (actionsOf c) && leb (actionsOf c) 8) 2 5) (demand (leb 1 (blocksOf c) && leb (blocksOf c) 255) 2 6)
+
+-- 3: a length that is not what the counts give
+unfoldable pub lengthCheck : List ℕ → Checked
+lengthCheck c = demand (eqb (length c) (recordAt c (blocksOf c))) 3 (length c)
+
+-- 4: a target that is neither a block's number nor 255
+unfoldable pub targetCheck : List ℕ → ℕ → ℕ → Checked
+targetCheck c i a = demand (eqb (targetOf c i a) 255 || ltb (targetOf c i a) (blocksOf c)) 4 (targetAt c i a)
+
+unfoldable pub targetsCheck : List ℕ → Checked
+targetsCheck c = each (λ i. each (targetCheck c i) (actionsOf c)) (blocksOf c)
+
+-- 12: a record after block 0 that no earlier record named; a target, 255 apart, above the next unnamed number m
+unfoldable pub recordCheck : List ℕ → ℕ → ℕ → Checked
+recordCheck c i m = demand (eqb i 0 || ltb i m) 12 (recordAt c i)
+
+unfoldable pub orderCheck : List ℕ → ℕ → ℕ → ℕ → Checked
+orderCheck c i a m = demand (eqb (targetOf c i a) 255 || leb (targetOf c i a) m) 12 (targetAt c i a)
+
+unfoldable pub numberCheck : List ℕ → ℕ → ℕ → Checked
+numberCheck c i m = andThen (recordCheck c i m) (each (λ a. orderCheck c i a (nextIn c i m a)) (actionsOf c))
+
+unfoldable pub numbersCheck : List ℕ → Checked
+numbersCheck c = each (λ i. numberCheck c i (nextUnnamed c i)) (blocksOf c)
+
+-- two targets are both barred, or both not
+unfoldable pub sameBar : ℕ → ℕ → Bool
+sameBar t u = elim (eqb t 255) [ true ↦ eqb u 255 | false ↦ not (eqb u 255) ]
+
+-- two blocks bar the same actions
+unfoldable pub sameBars : List ℕ → ℕ → ℕ → Bool
+sameBars c i j = all (λ a. sameBar (targetOf c i a) (targetOf c j a)) (actionsOf c)
+
+-- 13: a label of an earlier record, with other actions barred
+unfoldable pub barCheck : List ℕ → ℕ → ℕ → Checked
+barCheck c j i = demand (not (eqb (labelOf c i) (labelOf c j)) || sameBars c i j) 13 (recordAt c j)
+
+unfoldable pub barsCheck : List ℕ → Checked
+barsCheck c = each (λ j. each (barCheck c j) j) (blocksOf c)
+
+-- 14: a block that is in the class of an earlier one when all rounds of refinement are done
+unfoldable pub classCheck : List ℕ → (ℕ → ℕ) → ℕ → Checked
+classCheck c f j = demand (eqb (f j) j) 14 (recordAt c j)
+
+unfoldable pub classesCheck : List ℕ → Checked
+classesCheck c = each (classCheck c (roundClass c (blocksOf c))) (blocksOf c)
+
+-- The check of the header: 1, 2, 3.
+unfoldable pub headerCheck : List ℕ → Checked
+headerCheck c = andThen (markCheck c) (andThen (countCheck c) (lengthCheck c))
+
+-- all that comes before 14
+unfoldable pub formCheck : List ℕ → Checked
+formCheck c = andThen (headerCheck c) (andThen (targetsCheck c) (andThen (numbersCheck c) (barsCheck c)))
+
+-- The check of a chart.
+unfoldable pub chartCheck : List ℕ → Checked
+chartCheck c = andThen (formCheck c) (classesCheck c)

@@ -1,0 +1,13 @@
+pub mod Check
+pub mod Shape
+pub mod Loops
+pub mod Header
+pub mod Records
+pub mod Classes
+pub mod RunChart
+pub mod Sequence
+pub mod Accepted
+pub mod Walk
+pub mod Ran
+pub mod Unparted
+pub mod OfSheet

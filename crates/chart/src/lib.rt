@@ -1,0 +1,69 @@
+// Charts read from bytes: the check of the chart rules, and the run of an action sequence on a chart.
+ghost use mathlib.Core.Path.{_≡_};
+ghost use lib.ListN.{length};
+ghost use Rattle.chart.specs.Check.{formCheck, chartCheck};
+ghost use Rattle.chart.specs.RunChart.{chartRunCheck, chartRan, chartLeft};
+use answers::Checked;
+use answers::Ran;
+
+mod bars;
+mod fields;
+mod header;
+mod numbering;
+mod rounds;
+mod sequence;
+mod targets;
+mod walk;
+
+// All refusals before 14.
+fn check_form(c: &[u8]) -> Checked
+    ensures { λ r. ⌜ r ≡ formCheck (now (c .entry)) ⌝ }
+{
+    let found = header::check_header(c);
+    let Checked::Fine = found else {
+        return found;
+    };
+    let targets = targets::check_targets(c);
+    let Checked::Fine = targets else {
+        return targets;
+    };
+    let numbers = numbering::check_numbers(c);
+    let Checked::Fine = numbers else {
+        return numbers;
+    };
+    bars::check_bars(c)
+}
+
+// The check of a chart: accepted just if it obeys the chart rules.
+pub fn check(c: &[u8]) -> Checked
+    ensures { λ r. ⌜ r ≡ chartCheck (now (c .entry)) ⌝ }
+{
+    let form = check_form(c);
+    let Checked::Fine = form else {
+        return form;
+    };
+    rounds::check_classes(c)
+}
+
+// All refusals of a run: the chart's, then those of the sequence and the buffer.
+fn check_run(c: &[u8], actions: &[u8], room: usize) -> Checked
+    ensures { λ r. ⌜ r ≡ chartRunCheck (now (c .entry)) (now (actions .entry)) room ⌝ }
+{
+    let chart = check(c);
+    let Checked::Fine = chart else {
+        return chart;
+    };
+    sequence::check_sequence(actions, fields::actions_of(c), room)
+}
+
+// The run of an action sequence on a chart: the labels read are written from the buffer's front, unless something is refused.
+pub fn run(c: &[u8], actions: &[u8], labels: &mut [u16]) -> Ran
+    ensures { λ r. ⌜ r ≡ chartRan (now (c .entry)) (now (actions .entry)) (length (now (labels .entry))) ⌝ }
+    ensures { λ r. ⌜ now (labels .exit) ≡ chartLeft (now (c .entry)) (now (actions .entry)) (now (labels .entry)) ⌝ }
+{
+    let checked = check_run(c, actions, labels.len());
+    let Checked::Refused { number, returned } = checked else {
+        return walk::walk(c, actions, labels);
+    };
+    Ran::Refused { number, returned }
+}

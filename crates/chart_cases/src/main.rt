@@ -1,0 +1,288 @@
+// Checks and runs charts at their extremes: each refusal at its first and last possible place, 1 and 255 blocks, the most rounds,
+// runs of 0 to 4,097 actions. Its output is stored.
+ghost use Prim.Native.Nat.{_≤_};
+use answers::Checked;
+use answers::Ending;
+use answers::Ran;
+use libc::STDOUT_FILENO;
+
+fn put(s: &[u8]) {
+    io::write_all(STDOUT_FILENO, s);
+}
+
+fn put_number(n: usize) {
+    io::print_decimal(STDOUT_FILENO, n as u64);
+}
+
+fn put_refusal(number: u8, returned: usize) {
+    put(b"refused ");
+    put_number(number as usize);
+    put(b" at ");
+    put_number(returned);
+    put(b"\n");
+}
+
+fn put_checked(r: Checked) {
+    match r {
+        Checked::Fine => put(b"fine\n"),
+        Checked::Refused { number, returned } => put_refusal(number, returned),
+    }
+}
+
+// The check of the first bytes of c.
+fn show(name: &[u8], c: &[u8], len: usize) {
+    put(name);
+    put(b": ");
+    if len <= c.len() {
+        put_checked(chart::check(&c[0..len]));
+    }
+}
+
+fn poke(c: &mut [u8; 2600], at: usize, v: u8) {
+    if at < 2600 {
+        c[at] = v;
+    }
+}
+
+// A wide chart has 8 actions, a narrow one has 1.
+fn actions(wide: bool) -> u8 {
+    if wide { 8 } else { 1 }
+}
+
+// Where the record of block i begins.
+fn place(i: u8, wide: bool) -> usize
+    ensures { λ r. ⌜ r ≤ 2557 ⌝ }
+{
+    if wide {
+        7 + 10 * (i as usize)
+    } else {
+        7 + 3 * (i as usize)
+    }
+}
+
+fn header(c: &mut [u8; 2600], wide: bool, n: u8) {
+    poke(c, 0, 66);
+    poke(c, 1, 67);
+    poke(c, 2, 72);
+    poke(c, 3, 1);
+    poke(c, 4, 0);
+    poke(c, 5, actions(wide));
+    poke(c, 6, n);
+}
+
+fn label(c: &mut [u8; 2600], wide: bool, i: u8, v: u8) {
+    poke(c, place(i, wide), v);
+}
+
+fn target(c: &mut [u8; 2600], wide: bool, i: u8, a: u8, t: u8) {
+    poke(c, place(i, wide) + 2 + a as usize, t);
+}
+
+// Block i with label 10, whose actions all lead to itself.
+fn still(c: &mut [u8; 2600], wide: bool, i: u8) {
+    label(c, wide, i, 10);
+    poke(c, place(i, wide) + 1, 0);
+    for a in 0..actions(wide) {
+        target(c, wide, i, a, i);
+    }
+}
+
+// A chain of n blocks: action 0 leads from each to the next, and is barred in the last, which has another label.
+fn chain(c: &mut [u8; 2600], wide: bool, n: u8) {
+    header(c, wide, n);
+    for i in 0..n {
+        still(c, wide, i);
+        target(c, wide, i, 0, i + 1);
+    }
+    if n > 0 {
+        label(c, wide, n - 1, 20);
+        target(c, wide, n - 1, 0, 255);
+    }
+}
+
+// One byte changed, shown, and changed back.
+fn changed(name: &[u8], c: &mut [u8; 2600], len: usize, at: usize, v: u8) {
+    if at < 2600 {
+        let old = c[at];
+        c[at] = v;
+        show(name, c, len);
+        c[at] = old;
+    }
+}
+
+// Refusal 1 on a chain of three blocks, then 2 and 3.
+fn show_header(c: &mut [u8; 2600]) {
+    chain(c, false, 3);
+    show(b"chain of 3", c, 16);
+    show(b"no bytes", c, 0);
+    show(b"6 bytes", c, 6);
+    changed(b"mark, first byte", c, 16, 0, 65);
+    changed(b"version, last byte", c, 16, 4, 1);
+}
+
+fn show_counts(c: &mut [u8; 2600]) {
+    chain(c, false, 3);
+    changed(b"no actions", c, 16, 5, 0);
+    changed(b"9 actions", c, 16, 5, 9);
+    changed(b"no blocks", c, 16, 6, 0);
+    show(b"header alone", c, 7);
+    show(b"one byte short", c, 15);
+    show(b"one byte long", c, 17);
+}
+
+// Refusals 4 and 12 at their first places, then 13, 14 and single blocks.
+fn show_named(c: &mut [u8; 2600]) {
+    chain(c, false, 3);
+    changed(b"first target", c, 16, 9, 3);
+    changed(b"last target", c, 16, 15, 254);
+    changed(b"first target above 1", c, 16, 9, 2);
+    changed(b"block 1 not named", c, 16, 9, 0);
+    changed(b"block 2 not named", c, 16, 12, 1);
+}
+
+fn show_first(c: &mut [u8; 2600]) {
+    chain(c, false, 2);
+    changed(b"bars, 2 blocks", c, 13, 10, 10);
+    header(c, false, 2);
+    still(c, false, 0);
+    still(c, false, 1);
+    target(c, false, 0, 0, 1);
+    show(b"alike, 2 blocks", c, 13);
+}
+
+fn show_single(c: &mut [u8; 2600]) {
+    chain(c, false, 1);
+    show(b"1 block, barred", c, 10);
+    changed(b"1 block, to itself", c, 10, 9, 0);
+    changed(b"1 block, to 1", c, 10, 9, 1);
+}
+
+// The same at their last places.
+fn show_last(c: &mut [u8; 2600]) {
+    chain(c, true, 254);
+    show(b"chain of 254, 8 actions", c, 2547);
+    changed(b"last target 254", c, 2547, 2546, 254);
+    chain(c, true, 255);
+    show(b"chain of 255, 8 actions: most rounds", c, 2557);
+    changed(b"block 254 not named", c, 2557, 2539, 253);
+    changed(b"bars of block 254", c, 2557, 2547, 10);
+}
+
+fn show_alike(c: &mut [u8; 2600]) {
+    chain(c, true, 255);
+    target(c, true, 252, 1, 254);
+    target(c, true, 253, 0, 255);
+    label(c, true, 253, 20);
+    show(b"block 254 like 253", c, 2557);
+    changed(b"block 254 unlike 253", c, 2557, 2547, 30);
+    show(b"one byte short", c, 2556);
+}
+
+fn wide(x: u16) -> usize {
+    x as usize
+}
+
+// Four entries of a buffer.
+fn put_labels(labels: &[u16; 4100], at: usize) {
+    if at < 4096 {
+        put_number(wide(labels[at]));
+        put(b" ");
+        put_number(wide(labels[at + 1]));
+        put(b" ");
+        put_number(wide(labels[at + 2]));
+        put(b" ");
+        put_number(wide(labels[at + 3]));
+        put(b"\n");
+    }
+}
+
+fn put_ending(e: Ending) {
+    match e {
+        Ending::Whole => put(b"whole"),
+        Ending::Barred { index } => {
+            put(b"barred at ");
+            put_number(index);
+        }
+    }
+}
+
+fn put_ran(r: Ran) {
+    match r {
+        Ran::Done { labels, ending } => {
+            put_number(labels);
+            put(b" labels, ");
+            put_ending(ending);
+            put(b"\n");
+        }
+        Ran::Refused { number, returned } => put_refusal(number, returned),
+    }
+}
+
+// A run of the first n actions with a buffer of room entries.
+fn run_on(c: &[u8], len: usize, w: &[u8], n: usize, labels: &mut [u16], room: usize) {
+    if len <= c.len() {
+        if n <= w.len() {
+            if room <= labels.len() {
+                put_ran(chart::run(&c[0..len], &w[0..n], &mut labels[0..room]));
+            }
+        }
+    }
+}
+
+// The same, and the buffer's ends afterwards.
+fn show_run(name: &[u8], c: &[u8], len: usize, w: &[u8], n: usize, room: usize) {
+    let mut labels = [7777u16; 4100];
+    put(name);
+    put(b": ");
+    run_on(c, len, w, n, &mut labels, room);
+    put_labels(&labels, 0);
+    put_labels(&labels, 4095);
+}
+
+fn show_runs(c: &mut [u8; 2600], w: &[u8; 4097]) {
+    chain(c, false, 3);
+    show_run(b"no action", c, 16, w, 0, 4100);
+    show_run(b"1 action", c, 16, w, 1, 4100);
+    show_run(b"3 actions, barred", c, 16, w, 3, 4100);
+    show_run(b"3 actions, room for 3", c, 16, w, 3, 3);
+    show_run(b"no action, no room", c, 16, w, 0, 0);
+}
+
+fn show_refused(c: &mut [u8; 2600], w: &mut [u8; 4097]) {
+    changed_run(b"barred at once", c, w, 9, 255);
+    w[1] = 1;
+    show_run(b"action 1 of 1", c, 16, w, 3, 1);
+    w[1] = 0;
+    show_run(b"chart one byte short", c, 15, w, 4097, 0);
+}
+
+fn changed_run(name: &[u8], c: &mut [u8; 2600], w: &[u8; 4097], at: usize, v: u8) {
+    header(c, false, 1);
+    poke(c, at, v);
+    show_run(name, c, 10, w, 1, 4100);
+    chain(c, false, 3);
+}
+
+// A ring of two blocks with different labels, for the longest runs.
+fn show_long(c: &mut [u8; 2600], w: &[u8; 4097]) {
+    chain(c, false, 2);
+    target(c, false, 1, 0, 0);
+    show_run(b"4096 actions", c, 13, w, 4096, 4097);
+    show_run(b"4096 actions, room for 4096", c, 13, w, 4096, 4096);
+    show_run(b"4097 actions", c, 13, w, 4097, 4100);
+}
+
+fn main() {
+    let mut c = [0u8; 2600];
+    let mut w = [0u8; 4097];
+    show_header(&mut c);
+    show_counts(&mut c);
+    show_named(&mut c);
+    show_first(&mut c);
+    show_single(&mut c);
+    show_last(&mut c);
+    show_alike(&mut c);
+    show_runs(&mut c, &w);
+    show_refused(&mut c, &mut w);
+    show_long(&mut c, &w);
+}
