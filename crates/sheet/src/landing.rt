@@ -89,7 +89,7 @@ fn cut_by(rule: Rule, wanted: Range, b: Ranges) -> Ranges
 }
 
 // The same for each rule and its counter's wanted range.
-fn cut_by_all(rules: Rules, wanted: Ranges, b: Ranges) -> Ranges
+pub fn cut_by_all(rules: Rules, wanted: Ranges, b: Ranges) -> Ranges
     requires { ⌜ RulesFit rules ⌝ }
     requires { ⌜ RangesWithin 1000000 wanted ⌝ }
     ensures { λ r. ⌜ r ≡ cutsThree rules wanted b ⌝ }
