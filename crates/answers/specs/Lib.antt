@@ -1,2 +1,4 @@
 pub mod Stages
 pub mod Run
+pub mod Sequence
+pub mod Walk

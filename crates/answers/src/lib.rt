@@ -3,6 +3,8 @@
 ghost use mathlib.Core.Path.{_≡_};
 ghost use Rattle.answers.specs.Stages.{demand};
 
+pub mod sequence;
+
 // A check, or a stage of one: it passed, or it was refused with a number and what the table says is returned.
 pub enum Checked {
     Fine,

@@ -13,13 +13,13 @@ use lib.ListN.{length, getD, take}
 use lib.Seq.{ext-getD, getD-take, length-take-le}
 use borrow.Author.Tests.{ltb-true, leb-true, eqb-true, lt-ltb, le-leb, eq-eqb, ne-eqb}
 use Rattle.systems.specs.Search.{run, all, least}
-use Rattle.systems.specs.Laws.{true-is, is-true, both, all-true, Least, least-least, least-lt}
+use Rattle.systems.specs.Laws.{least-tells, eqb-tells, true-is, is-true, both, all-true, Least, least-least, least-lt}
 use Rattle.answers.specs.declared.Checked.{Checked}
 use Rattle.answers.specs.declared.Checked.the-variants.{Fine, Refused}
 use Rattle.answers.specs.Stages.{andThen, demand, each, passed, then-fine, demand-fine, each-fine, each-all}
 use Rattle.model.specs.Blocks.{chartMark}
 use Rattle.model.specs.Chart.{actionsOf, blocksOf, recordAt, labelOf, targetOf, nextIn, nextUnnamed, sameTarget, refines, roundClass, ToldApart, ChartRules}
-use Rattle.model.specs.Rounds.{TargetsRight, least-tells, eqb-tells, rounds-told}
+use Rattle.model.specs.Rounds.{TargetsRight, rounds-told}
 use Rattle.chart.specs.Check.{targetAt, marked, markCheck, countCheck, lengthCheck, headerCheck, targetCheck, targetsCheck, recordCheck, orderCheck, numberCheck, numbersCheck, sameBar, sameBars, barCheck, barsCheck, classCheck, classesCheck, formCheck, chartCheck}
 use Rattle.chart.specs.Shape.{Shaped, record-start}
 use Rattle.chart.specs.Loops.{demand-yes, or-first, or-second, and-both}

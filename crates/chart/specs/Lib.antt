@@ -5,7 +5,6 @@ pub mod Header
 pub mod Records
 pub mod Classes
 pub mod RunChart
-pub mod Sequence
 pub mod Accepted
 pub mod Walk
 pub mod Ran

@@ -8,10 +8,11 @@ use Rattle.answers.specs.declared.Checked.the-variants.{Fine, Refused}
 use Rattle.answers.specs.declared.Ran.{Ran}
 use Rattle.answers.specs.Stages.{andThen, then-fine}
 use Rattle.answers.specs.Run.{runChecks, ranBy, leftBy}
+use Rattle.answers.specs.Walk.{run-done, run-refused}
 use Rattle.model.specs.Chart.{actionsOf, chartReading}
 use Rattle.chart.specs.Check.{chartCheck}
 use Rattle.chart.specs.RunChart.{chartRunCheck, chartRan, chartLeft}
-use Rattle.chart.specs.Sequence.{Runs, sequence-passed}
+use Rattle.answers.specs.Sequence.{Runs, sequence-passed}
 use Rattle.chart.specs.Accepted.{Formed, check-passed}
 
 pub run-passed : (c w : List ℕ) (room : ℕ) → chartRunCheck c w room ≡ Fine → Formed c × Runs (actionsOf c) w room
@@ -23,15 +24,9 @@ run-passed c w room e =
 pub ran-done : (c w old : List ℕ) {r : Ran} {l : List ℕ} → chartRunCheck c w (length old) ≡ Fine → r ≡ ranBy Fine (chartReading c w)
     → l ≡ leftBy Fine (chartReading c w) old → (r ≡ chartRan c w (length old)) × (l ≡ chartLeft c w old)
 unfolding chartRan chartLeft
-ran-done c w old e p q = (
-  p ∙ ap (λ (x : Checked). ranBy x (chartReading c w)) (sym e),
-  q ∙ ap (λ (x : Checked). leftBy x (chartReading c w) old) (sym e),
-)
+ran-done c w old e p q = run-done (chartReading c w) old e p q
 
 pub ran-refused : (c w old : List ℕ) {n p : ℕ} → chartRunCheck c w (length old) ≡ Refused n p
     → (Ran.Refused n p ≡ chartRan c w (length old)) × (old ≡ chartLeft c w old)
-unfolding chartRan chartLeft ranBy leftBy
-ran-refused c w old e = (
-  ap (λ (x : Checked). ranBy x (chartReading c w)) (sym e),
-  ap (λ (x : Checked). leftBy x (chartReading c w) old) (sym e),
-)
+unfolding chartRan chartLeft
+ran-refused c w old e = run-refused (chartReading c w) old e

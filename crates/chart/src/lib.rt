@@ -5,13 +5,13 @@ ghost use Rattle.chart.specs.Check.{formCheck, chartCheck};
 ghost use Rattle.chart.specs.RunChart.{chartRunCheck, chartRan, chartLeft};
 use answers::Checked;
 use answers::Ran;
+use answers::sequence::check_sequence;
 
 mod bars;
 mod fields;
 mod header;
 mod numbering;
 mod rounds;
-mod sequence;
 mod targets;
 mod walk;
 
@@ -53,7 +53,7 @@ fn check_run(c: &[u8], actions: &[u8], room: usize) -> Checked
     let Checked::Fine = chart else {
         return chart;
     };
-    sequence::check_sequence(actions, fields::actions_of(c), room)
+    check_sequence(actions, fields::actions_of(c), room)
 }
 
 // The run of an action sequence on a chart: the labels read are written from the buffer's front, unless something is refused.

@@ -5,20 +5,29 @@ use mathlib.Core.List.{List, [], _∷_}
 use mathlib.Core.Option.{Option, some, none}
 use Prim.Native.Nat.{ℕ}
 use lib.Dec.{T, eqb}
+use lib.ListN.{set}
 use lib.IntN.{ℤ, pos, negsuc}
 use lib.Signed.{leZ}
 use Rattle.integers.specs.declared.Range.{Range}
-use Rattle.integers.specs.Range.{contains, meet, size, smaller, larger}
+use Rattle.integers.specs.Range.{contains, meet, vacant, size, smaller, larger}
 use Rattle.integers.specs.Division.{floorBy, floor, ceiling}
 use Rattle.integers.specs.Inverse.{inverse}
-use Rattle.integers.specs.LittleEndian.{split, bitsOf}
+use Rattle.integers.specs.LittleEndian.{joined, unsignedAt, signedOf, signedAt, split, bitsOf}
+use Rattle.systems.specs.Search.{run}
 use Rattle.systems.specs.Lists.{collect}
 use Rattle.systems.specs.System.{Reading, alone, stopped, before, continued, reading}
 use Rattle.systems.specs.Exploration.{place, known, added, visited, visitedAt, visitedNext, explore}
+use Rattle.answers.specs.declared.Checked.{Checked}
+use Rattle.answers.specs.declared.Checked.the-variants.{Fine, Refused}
+use Rattle.answers.specs.Stages.{andThen, demand}
 use Rattle.model.specs.declared.Rule.{Rule}
 use Rattle.model.specs.declared.Rule.the-variants.{Set, Carry}
 use Rattle.model.specs.Sheet.{Configuration, Box, Move, Barred, Open, Region, Sheet, within, inBox, placeIn, regionNumber, regionOf, applied, updated, landing, moved, step, sheetSystem, sheetReading}
 use Rattle.model.specs.Blocks.{emptied, cut, cuts, preimage, narrowed, classBox, volume, volumes, configurations, classOf, sameClass, blocks, targetByte, chartRecord, chartOf, rangeBytes, boxRecord, boxListOf}
+use Rattle.model.specs.Listing.{numbers, numbersIn, prefixed, valuesIn, members}
+use Rattle.sheet.specs.Layout.{moveSize, regionSize, startValue, regionPlace, labelAt, stateAt, lowPlace, highPlace, movePlace, rulePlace, factorOf, offsetOf}
+use Rattle.sheet.specs.Decode.{ruleOf, moveOf, rangeAt, boxAt, moveAt, regionAt, startOf, decode}
+use Rattle.sheet.specs.Check.{sameBytes, checkHeader, checkCounts, checkLength, checkRule, checkZeroRule, checkMove, checkFields, checkLabel, overlap, checkOverlap, checkStart, every, lands, checkLanding, sheetCheck}
 
 -- one example: what is computed, and what document 01 says it is
 pub data Row : Type 0 where
@@ -26,6 +35,10 @@ pub data Row : Type 0 where
   inverse-row : ℤ → ℤ → Range → Range → Row
   -- a sheet's chart
   chart-row : Sheet → List ℕ → Row
+  -- a sheet's bytes, accepted, and its chart
+  accepted-row : List ℕ → List ℕ → Row
+  -- bytes that are refused, with a number and a place
+  refused-row : List ℕ → ℕ → ℕ → Row
   -- a sheet's box list
   boxes-row : Sheet → List ℕ → Row
   -- an action sequence's labels and barred index
@@ -46,9 +59,17 @@ sameOption none (some y) = false
 sameOption (some x) none = false
 sameOption (some x) (some y) = eqb x y
 
+pub sameChecked : Checked → Checked → Bool
+sameChecked Fine Fine = true
+sameChecked Fine (Refused n p) = false
+sameChecked (Refused m q) Fine = false
+sameChecked (Refused m q) (Refused n p) = eqb m n && eqb q p
+
 pub test : Row → Bool
 test (inverse-row f b r q) = sameZ (inverse f b r .low) (q .low) && sameZ (inverse f b r .high) (q .high)
 test (chart-row s l) = sameList (chartOf s) l
+test (accepted-row s l) = sameChecked (sheetCheck s) Fine && sameList (chartOf (decode s)) l
+test (refused-row s n p) = sameChecked (sheetCheck s) (Refused n p)
 test (boxes-row s l) = sameList (boxListOf 2 s) l
 test (reading-row s w l b) = sameList (sheetReading s w .labels) l && sameOption (sheetReading s w .barred) b
 
@@ -71,6 +92,14 @@ sheet regions start = record { counters = 1; actions = 1; regions = regions; sta
 pub first : Sheet
 first = sheet (region 10 (pos 0) (pos 7) (carry (pos 2) (pos 1)) ∷ region 20 (pos 8) (pos 15) Barred ∷ []) (pos 2)
 
+-- its bytes
+pub bytes : List ℕ
+bytes =
+    77 ∷ 83 ∷ 72 ∷ 1 ∷ 0 ∷ 1 ∷ 1 ∷ 2 ∷ 0 ∷ 2 ∷ 0
+    ∷ 10 ∷ 0 ∷ 0 ∷ 0 ∷ 0 ∷ 7 ∷ 0 ∷ 1 ∷ 0 ∷ 1 ∷ 0 ∷ 2 ∷ 1 ∷ 0 ∷ 0 ∷ 0
+    ∷ 20 ∷ 0 ∷ 0 ∷ 8 ∷ 0 ∷ 15 ∷ 0 ∷ 0 ∷ 0 ∷ 0 ∷ 0 ∷ 0 ∷ 0 ∷ 0 ∷ 0 ∷ 0
+    ∷ []
+
 -- factor -1, offset -1 on one region -8..7
 pub mirror : Sheet
 mirror = sheet (region 10 (negsuc 7) (pos 7) (carry (negsuc 0) (negsuc 0)) ∷ []) (pos 2)
@@ -86,7 +115,14 @@ pub table : List Row
 table =
     -- P1
     chart-row first (66 ∷ 67 ∷ 72 ∷ 1 ∷ 0 ∷ 1 ∷ 3 ∷ 10 ∷ 0 ∷ 1 ∷ 10 ∷ 0 ∷ 2 ∷ 20 ∷ 0 ∷ 255 ∷ [])
+    ∷ accepted-row bytes (66 ∷ 67 ∷ 72 ∷ 1 ∷ 0 ∷ 1 ∷ 3 ∷ 10 ∷ 0 ∷ 1 ∷ 10 ∷ 0 ∷ 2 ∷ 20 ∷ 0 ∷ 255 ∷ [])
     ∷ boxes-row first (0 ∷ 2 ∷ 0 ∷ 3 ∷ 0 ∷ 0 ∷ 4 ∷ 0 ∷ 7 ∷ 0 ∷ 0 ∷ 8 ∷ 0 ∷ 15 ∷ 0 ∷ [])
+    -- P2: offset 2 in place of 1
+    ∷ refused-row (set bytes 23 2) 8 18
+    -- P3: the second region's low 7
+    ∷ refused-row (set bytes 30 7) 6 27
+    -- P4: start 16
+    ∷ refused-row (set bytes 9 16) 7 8
     -- P5
     ∷ chart-row mirror (66 ∷ 67 ∷ 72 ∷ 1 ∷ 0 ∷ 1 ∷ 1 ∷ 10 ∷ 0 ∷ 0 ∷ [])
     ∷ boxes-row mirror (0 ∷ 248 ∷ 255 ∷ 7 ∷ 0 ∷ [])
@@ -102,5 +138,5 @@ table =
     ∷ []
 
 pub worked-examples : T (passes table)
-unfolding passes test table sameZ sameList sameOption region carry sheet first mirror doubling range smaller larger contains meet size floorBy floor ceiling inverse split bitsOf collect alone stopped before continued reading place known added visited visitedAt visitedNext explore within inBox placeIn regionNumber regionOf applied updated landing moved step sheetSystem sheetReading emptied cut cuts preimage narrowed classBox volume volumes configurations classOf sameClass blocks targetByte chartRecord chartOf rangeBytes boxRecord boxListOf
+unfolding passes test table sameZ sameList sameOption sameChecked bytes region carry sheet first mirror doubling range smaller larger contains meet size floorBy floor ceiling inverse split bitsOf collect alone stopped before continued reading place known added visited visitedAt visitedNext explore within inBox placeIn regionNumber regionOf applied updated landing moved step sheetSystem sheetReading emptied cut cuts preimage narrowed classBox volume volumes configurations classOf sameClass blocks targetByte chartRecord chartOf rangeBytes boxRecord boxListOf joined unsignedAt signedOf signedAt vacant run andThen demand numbers numbersIn prefixed valuesIn members moveSize regionSize startValue regionPlace labelAt stateAt lowPlace highPlace movePlace rulePlace factorOf offsetOf ruleOf moveOf rangeAt boxAt moveAt regionAt startOf decode sameBytes checkHeader checkCounts checkLength checkRule checkZeroRule checkMove checkFields checkLabel overlap checkOverlap checkStart every lands checkLanding sheetCheck
 worked-examples = tt

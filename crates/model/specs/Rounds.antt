@@ -13,8 +13,8 @@ use lib.Dec.{T, eqb, eqb→eq}
 use lib.ListN.{length}
 use Rattle.systems.specs.Search.{all, least}
 use Rattle.systems.specs.System.{System, reading, continued, stopped, before, Alike}
-use Rattle.systems.specs.Laws.{true-is, both, all-true, least-equivalent, below-suc}
-use Rattle.systems.specs.Alike.{Both, both-barred, both-open, AlikeTo, alike-to-zero, alike-to-suc, alike-to-le, alike-depths, alike-to-equivalence, before-inj, before-stopped, alone-inj}
+use Rattle.systems.specs.Laws.{true-is, both, all-true, below-suc, least-tells, eqb-tells}
+use Rattle.systems.specs.Alike.{reading-open, reading-barred, Both, both-barred, both-open, AlikeTo, alike-to-zero, alike-to-suc, alike-to-le, alike-depths, alike-to-equivalence, before-inj, before-stopped, alone-inj}
 use Rattle.systems.specs.Counting.{numbers, numbers-length, numbers-mem, Finer, classes, classes-finer}
 use Rattle.systems.specs.Moore.{Chain, changes, changed, changed-differs, changes-le, settled-from, Tested, depths-chain, alike-length}
 use Rattle.model.specs.Chart.{actionsOf, blocksOf, labelOf, targetOf, named, chartStep, chartSystem, AllBelow, below-none, below-more, ToldApart, sameTarget, refines, roundClass}
@@ -22,24 +22,6 @@ use Rattle.model.specs.Chart.{actionsOf, blocksOf, labelOf, targetOf, na
 -- each target is a block's number or 255
 abbrev pub TargetsRight : List ℕ → Type 0
 TargetsRight c = (i a : ℕ) → i < blocksOf c → a < actionsOf c → (targetOf c i a < blocksOf c) ⊎ (targetOf c i a ≡ 255)
-
--- Where a Bool test tells an equivalence of the numbers below n, so does the least number that passes with i.
-pub least-tells : (q : ℕ → ℕ → Bool) (n : ℕ) (R : ℕ → ℕ → Type 0) → Equivalence R → ((i j : ℕ) → i < n → j < n → T (q i j) ↔ R i j)
-    → (i j : ℕ) → i < n → j < n → (least (q i) n ≡ least (q j) n) ↔ R i j
-least-tells q n R E t i j hi hj =
-    let e =
-    least-equivalent q n
-    (record {
-      reflexive = λ i h. t i i h h .1 (E .refl i);
-      symmetric = λ i j h g p. t j i g h .1 (E .symm i j (t i j h g .0 p));
-      transitive = λ i j k h g l p r. t i k h l .1 (E .trans i j k (t i j h g .0 p) (t j k g l .0 r));
-    })
-    i j hi hj in
-    (λ p. t i j hi hj .0 (e .0 p), λ r. e .1 (t i j hi hj .1 r))
-
--- a test for equal numbers
-pub eqb-tells : (a b : ℕ) → T (eqb a b) ↔ (a ≡ b)
-eqb-tells a b = (eqb→eq a b, λ e. true-is (eqb a b) (eq-eqb a b e))
 
 -- the block that a target names
 pub named-barred : (t : ℕ) → t ≡ 255 → named t ≡ none
@@ -129,15 +111,6 @@ pub record ApartIn (c : List ℕ) (k i j : ℕ) : Type 0 where
   pub of-actions : AllBelow (actionsOf c) sequence
   pub short : length sequence ≤ k
   pub differs : reading (chartSystem c) sequence i ≡ reading (chartSystem c) sequence j → ⊥
-
--- what the first action of a sequence does to a reading
-pub reading-open : {X : Type 0} (s : System X) (a : ℕ) (w : List ℕ) (x y : X) → s .step a x ≡ some y → reading s (a ∷ w) x ≡ before (s .label x) (reading s w y)
-unfolding reading continued
-reading-open s a w x y e = ap (λ o. continued (s .label x) o (reading s w)) e
-
-pub reading-barred : {X : Type 0} (s : System X) (a : ℕ) (w : List ℕ) (x : X) → s .step a x ≡ none → reading s (a ∷ w) x ≡ stopped (s .label x)
-unfolding reading continued
-reading-barred s a w x e = ap (λ o. continued (s .label x) o (reading s w)) e
 
 -- each number below n has one property, or something else holds
 each-or : (P : ℕ → Type 0) (Q : Type 0) (n : ℕ) → ((a : ℕ) → a < n → P a ⊎ Q) → ((a : ℕ) → a < n → P a) ⊎ Q

@@ -17,3 +17,5 @@ pub mod Shares
 pub mod Accepted
 pub mod Regions
 pub mod Whole
+pub mod RunSheet
+pub mod Walk

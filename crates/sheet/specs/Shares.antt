@@ -126,7 +126,7 @@ module _ (s : List ℕ) (S : Shaped s) (b : Bytes s) (P : Passed s) (i a : ℕ) 
       sym (barred-lands s i a (q ∙ ap (λ (t : Move). moveOfKind t (m .target) (rulesMeant (countersOf s) (m .rules))) d))
 
   -- and one that it reads as open is open
-  is-open : m .kind ≡ Open → moveAt s i a ≡ opened (getD (movePart s i a) 1 0) (listed (ruleAt (movePart s i a)) (countersOf s))
+  pub is-open : m .kind ≡ Open → moveAt s i a ≡ opened (getD (movePart s i a) 1 0) (listed (ruleAt (movePart s i a)) (countersOf s))
   unfolding moveAt moveOfKind moveThree
   is-open d =
       let p = movePart s i a in
@@ -135,7 +135,7 @@ module _ (s : List ℕ) (S : Shaped s) (b : Bytes s) (P : Passed s) (i a : ℕ) 
       ∙ ap (λ (t : Move). moveOfKind t (getD (movePart s i a) 1 0) (rulesMeant (countersOf s) (rulesThree (ruleAt (movePart s i a)) (countersOf s)))) c
       ∙ ap (opened (getD (movePart s i a) 1 0)) (firsts-padded zeroRule (ruleAt (movePart s i a)) (countersOf s) (S .counters-few))
 
-  rules-limits : m .kind ≡ Open → Each (RuleFits (countersOf s)) (listed (ruleAt (movePart s i a)) (countersOf s))
+  pub rules-limits : m .kind ≡ Open → Each (RuleFits (countersOf s)) (listed (ruleAt (movePart s i a)) (countersOf s))
   rules-limits d = go (subst (MoveFits (countersOf s)) (is-open d) (moves-fit s b (P .fields) i a h k))
     where
       go : {target : ℕ} {rules : List Rule} → MoveFits (countersOf s) (opened target rules) → Each (RuleFits (countersOf s)) rules

@@ -2,7 +2,7 @@
 ghost use mathlib.Core.Path.{_≡_};
 ghost use Prim.Native.Nat.{_<_, _≤_};
 ghost use lib.ListN.{length};
-ghost use Rattle.sheet.specs.Layout.{moveSize, regionSize, regionPlace, movePlace};
+ghost use Rattle.sheet.specs.Layout.{countersOf, moveSize, regionSize, regionPlace, movePlace, movePart};
 ghost use Rattle.sheet.specs.Decode.{rangeAt, ruleOf, ruleAt};
 ghost use Rattle.sheet.specs.Three.{Read, shapeOf, padded, zeroRange, zeroRule, boxThree, startThree, startPadded, moveThree};
 use crate::Config;
@@ -186,4 +186,14 @@ pub fn read_move(part: &[u8], counters: usize) -> RegionMove
         target: part[1],
         rules,
     }
+}
+
+// The move of action a in region i. Its reader is given the part of the sheet that starts with its record.
+pub fn move_at(s: &[u8], shape: Shape, i: usize, a: usize) -> RegionMove
+    requires { ⌜ Read (now s) shape ⌝ }
+    requires { ⌜ (i < shape .regions) × (a < shape .actions) ⌝ }
+    ensures { λ r. ⌜ r ≡ moveThree (countersOf (now (s .entry))) (movePart (now (s .entry)) i a) ⌝ }
+{
+    let at = move_place(s, shape, i, a);
+    read_move(&s[at..], shape.counters)
 }

@@ -20,8 +20,8 @@ use crate::RegionMove;
 use crate::Rules;
 use crate::Shape;
 use crate::fields::box_at;
+use crate::fields::move_at;
 use crate::fields::move_place;
-use crate::fields::read_move;
 use answers::Checked;
 use integers::Range;
 use integers::division::inverse_range;
@@ -144,8 +144,7 @@ pub fn lands_all(s: &[u8], shape: Shape, i: usize, a: usize) -> bool
     requires { ⌜ (i < shape .regions) × (a < shape .actions) ⌝ }
     ensures { λ r. ⌜ r ≡ landsAll (now (s .entry)) i a ⌝ }
 {
-    let at = move_place(s, shape, i, a);
-    let m = read_move(&s[at..], shape.counters);
+    let m = move_at(s, shape, i, a);
     let kind = m.kind;
     let Move::Open = kind else {
         return true;

@@ -1,9 +1,13 @@
 // Sheets as bytes (document 01, "The sheet, mark MSH"): checking one, and running an action sequence on it.
 ghost use mathlib.Core.Path.{_≡_};
+ghost use lib.ListN.{length};
 ghost use Rattle.sheet.specs.Check.{sheetCheck};
 ghost use Rattle.sheet.specs.Whole.{contentsCheck};
 ghost use Rattle.sheet.specs.Three.{Read};
+ghost use Rattle.sheet.specs.RunSheet.{sheetRunCheck, sheetRan, sheetLeft};
 use answers::Checked;
+use answers::Ran;
+use answers::sequence::check_sequence;
 use integers::Range;
 use model::Rule;
 
@@ -13,6 +17,7 @@ pub mod landing;
 mod limits;
 pub mod regions;
 pub mod space;
+mod walk;
 
 // The three counts of a sheet: V, A and R.
 pub struct Shape {
@@ -108,4 +113,28 @@ pub fn check(s: &[u8]) -> Checked
         return length;
     };
     check_contents(s, fields::shape_of(s))
+}
+
+// All refusals of a run: the sheet's, then those of the sequence and the buffer.
+fn check_run(s: &[u8], actions: &[u8], room: usize) -> Checked
+    ensures { λ r. ⌜ r ≡ sheetRunCheck (now (s .entry)) (now (actions .entry)) room ⌝ }
+{
+    let sheet = check(s);
+    let Checked::Fine = sheet else {
+        return sheet;
+    };
+    let shape = fields::shape_of(s);
+    check_sequence(actions, shape.actions, room)
+}
+
+// The run of an action sequence on a sheet: the labels read are written from the buffer's front, unless something is refused.
+pub fn run(s: &[u8], actions: &[u8], labels: &mut [u16]) -> Ran
+    ensures { λ r. ⌜ r ≡ sheetRan (now (s .entry)) (now (actions .entry)) (length (now (labels .entry))) ⌝ }
+    ensures { λ r. ⌜ now (labels .exit) ≡ sheetLeft (now (s .entry)) (now (actions .entry)) (now (labels .entry)) ⌝ }
+{
+    let checked = check_run(s, actions, labels.len());
+    let Checked::Refused { number, returned } = checked else {
+        return walk::walk(s, fields::shape_of(s), actions, labels);
+    };
+    Ran::Refused { number, returned }
 }

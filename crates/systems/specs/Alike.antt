@@ -10,6 +10,15 @@ use mathlib.Core.Option.{Option, some, none, Option·map}
 use lib.ListN.{length}
 use Rattle.systems.specs.System.{System, Reading, alone, stopped, before, continued, reading, Alike}
 
+-- what the first action of a sequence does to a reading
+pub reading-open : {X : Type 0} (s : System X) (a : ℕ) (w : List ℕ) (x y : X) → s .step a x ≡ some y → reading s (a ∷ w) x ≡ before (s .label x) (reading s w y)
+unfolding reading continued
+reading-open s a w x y e = ap (λ o. continued (s .label x) o (reading s w)) e
+
+pub reading-barred : {X : Type 0} (s : System X) (a : ℕ) (w : List ℕ) (x : X) → s .step a x ≡ none → reading s (a ∷ w) x ≡ stopped (s .label x)
+unfolding reading continued
+reading-barred s a w x e = ap (λ o. continued (s .label x) o (reading s w)) e
+
 -- what the number of labels and the barred index of a reading of n actions can be
 pub data Sized (n : ℕ) : ℕ → Option ℕ → Type 0 where
   whole : Sized n (suc n) none

@@ -3,9 +3,10 @@ use Prim.Native.Nat.{ℕ, zero, suc, _≤_, _<_}
 use native.Mathlib.Nat.{not-suc-le-zero, le-of-suc-le-suc, eq-or-lt-of-le}
 use native.Mathlib.Omega.{arith}
 use mathlib.Core.Path.{_≡_, refl, sym, ap, subst, _∙_}
-use mathlib.Core.Logic.{_↔_, _⊎_, inl, inr, ⊎-elim}
+use mathlib.Core.Logic.{_↔_, _⊎_, inl, inr, ⊎-elim, Equivalence}
 use mathlib.Core.Bool.{Bool, true, false, _||_, _&&_}
-use lib.Dec.{T}
+use lib.Dec.{T, eqb, eqb→eq}
+use borrow.Author.Tests.{eq-eqb}
 use Rattle.systems.specs.Search.{run, any, all, least}
 
 -- a test passes or fails
@@ -167,3 +168,21 @@ least-equivalent q n E i j hi hj = (
       E .transitive i (least (q i) n) j hi h hj a (E .symmetric j (least (q i) n) hj h b),
   λ t. least-ext (q i) (q j) n (λ k h. (λ u. E .transitive j i k hj hi h (E .symmetric i j hi hj t) u, λ u. E .transitive i j k hi hj h t u)),
 )
+
+-- Where a Bool test tells an equivalence of the numbers below n, so does the least number that passes with i.
+pub least-tells : (q : ℕ → ℕ → Bool) (n : ℕ) (R : ℕ → ℕ → Type 0) → Equivalence R → ((i j : ℕ) → i < n → j < n → T (q i j) ↔ R i j)
+    → (i j : ℕ) → i < n → j < n → (least (q i) n ≡ least (q j) n) ↔ R i j
+least-tells q n R E t i j hi hj =
+    let e =
+    least-equivalent q n
+    (record {
+      reflexive = λ i h. t i i h h .1 (E .refl i);
+      symmetric = λ i j h g p. t j i g h .1 (E .symm i j (t i j h g .0 p));
+      transitive = λ i j k h g l p r. t i k h l .1 (E .trans i j k (t i j h g .0 p) (t j k g l .0 r));
+    })
+    i j hi hj in
+    (λ p. t i j hi hj .0 (e .0 p), λ r. e .1 (t i j hi hj .1 r))
+
+-- a test for equal numbers
+pub eqb-tells : (a b : ℕ) → T (eqb a b) ↔ (a ≡ b)
+eqb-tells a b = (eqb→eq a b, λ e. true-is (eqb a b) (eq-eqb a b e))

@@ -18,13 +18,13 @@ abbrev μ-loop : tie.MeasureT-loop
 μ-loop c i before next₀ a₀ a-end next a = a-end - a
 
 actions-of-requires : tie.Need-actions-of-requires Inv-loop μ-loop
-actions-of-requires c κs = search needs
+actions-of-requires c κs = c .before .pre .0
 
 loop-holds : tie.Need-loop-holds Inv-loop μ-loop
 loop-holds c = let s = c .before .before .args in (omega arith, next-none (s .c .now) (s .i) (s .before), search needs, each-none (λ a. orderCheck (s .c .now) (s .i) a (nextIn (s .c .now) (s .i) (s .before) a)))
 
 check-order-requires : tie.Need-check-order-requires Inv-loop μ-loop
-check-order-requires c κs = search needs
+check-order-requires c κs = (c .before .before .before .before .pre .0, (c .before .before .before .before .pre .1 .0, omega arith))
 
 enum-told : tie.Need-enum-told Inv-loop μ-loop
 enum-told c = search needs
@@ -39,10 +39,10 @@ returns c =
     each-refused (λ a. orderCheck (s .c .now) (s .i) a (nextIn (s .c .now) (s .i) (s .before) a)) (l .a) (actionsOf (s .c .now)) (l .inv .3) (omega arith) (c .before .before .check-order .ensures ∙ ap (orderCheck (s .c .now) (s .i) (l .a)) (l .inv .1)) (c .enum-told2 .given .1)
 
 target-of-requires : tie.Need-target-of-requires Inv-loop μ-loop
-target-of-requires c κs = search needs
+target-of-requires c κs = (c .before .before .before .before .before .before .before .pre .0, (c .before .before .before .before .before .before .before .pre .1 .0, omega arith))
 
 next-after-requires : tie.Need-next-after-requires Inv-loop μ-loop
-next-after-requires c κs = search needs
+next-after-requires c κs = (c .before .before .before .before .before .loop .inv .2, c .target-of .ensures .1)
 
 add-a : tie.Need-add-a Inv-loop μ-loop
 add-a c = search needs

@@ -38,7 +38,7 @@ same-length : tie.Need-same-length Inv-loop μ-loop
 same-length c =
     let s = c .before .before .before .before .before .before .before .before .before .args in
     let l = c .before .before .before .before .loop in
-    walk-old (s .c .now) (s .actions .now) (s .labels .now) (c .before .before .before .before .before .label-of .result) (l .i) (l .block) (l .labels) (l .inv .1) .same-length
+    walk-old (s .c .now) (s .actions .now) (s .labels .now) (c .before .before .before .before .before .label-of .result) (l .i) (l .block) (l .labels) (l .inv .1) .walked .same-length
 
 returns : tie.Need-returns Inv-loop μ-loop
 returns c =
@@ -46,7 +46,7 @@ returns c =
     let l = c .before .before .before .before .loop in
     let k = walk-old (s .c .now) (s .actions .now) (s .labels .now) (c .before .before .before .before .before .label-of .result) (l .i) (l .block) (l .labels) (l .inv .1) in
     walk-barred (s .c .now) (s .actions .now) (s .labels .now) (l .labels) (l .i) (l .block) (c .before .target-of .result) k (omega arith)
-    (omega (arith, k .same-length, c .before .before .before .before .before .before .before .before .before .pre .1 .1 .1)) (c .before .before .before .before .before .before .before .before .before .pre .1 .1 .0 (c .before .before .before .before .loop .i) (omega arith)) (c .before .target-of .ensures .0) (c .if1 .taken)
+    (omega (arith, k .walked .same-length, c .before .before .before .before .before .before .before .before .before .pre .1 .1 .1)) (c .before .before .before .before .before .before .before .before .before .pre .1 .1 .0 (c .before .before .before .before .loop .i) (omega arith)) (c .before .target-of .ensures .0) (c .if1 .taken)
 
 label-of-requires-2 : tie.Need-label-of-requires-2 Inv-loop μ-loop
 label-of-requires-2 c κs =
@@ -58,10 +58,10 @@ add-labels : tie.Need-add-labels Inv-loop μ-loop
 add-labels c = omega arith
 
 mul-labels : tie.Need-mul-labels Inv-loop μ-loop
-mul-labels c = omega (arith, c .before .before .before .before .before .loop .inv .1 .same-length, length-set (c .before .before .before .before .before .before .before .before .before .before .args .labels .now) 0 (c .before .before .before .before .before .before .label-of .result), c .before .before .before .before .before .before .before .before .before .before .pre .1 .1 .1)
+mul-labels c = omega (arith, c .before .before .before .before .before .loop .inv .1 .walked .same-length, length-set (c .before .before .before .before .before .before .before .before .before .before .args .labels .now) 0 (c .before .before .before .before .before .before .label-of .result), c .before .before .before .before .before .before .before .before .before .before .pre .1 .1 .1)
 
 slice-write-labels-2 : tie.Need-slice-write-labels-2 Inv-loop μ-loop
-slice-write-labels-2 c = omega (arith, c .before .before .before .before .before .loop .inv .1 .same-length, length-set (c .before .before .before .before .before .before .before .before .before .before .args .labels .now) 0 (c .before .before .before .before .before .before .label-of .result), c .before .before .before .before .before .before .before .before .before .before .pre .1 .1 .1)
+slice-write-labels-2 c = omega (arith, c .before .before .before .before .before .loop .inv .1 .walked .same-length, length-set (c .before .before .before .before .before .before .before .before .before .before .args .labels .now) 0 (c .before .before .before .before .before .before .label-of .result), c .before .before .before .before .before .before .before .before .before .before .pre .1 .1 .1)
 
 add-i : tie.Need-add-i Inv-loop μ-loop
 add-i c = omega arith
@@ -78,7 +78,7 @@ loop-again c =
     let a = c .before .before .before .before .before .before .before .before .before .before .pre .1 .1 .0 (c .before .before .before .before .before .loop .i) (omega arith) in (
       omega arith,
       walk-step (s .args .c .now) (s .args .actions .now) (set (s .args .labels .now) 0 (c .before .before .before .before .before .before .label-of .result)) (l .labels) (l .i) (l .block) (t .result) (c .label-of2 .result)
-          (l .inv .1) (omega arith) (omega (arith, l .inv .1 .same-length, s .pre .1 .1 .1)) a (t .ensures .0) (c .before .if1 .left) (t .ensures .1)
+          (l .inv .1) (omega arith) (omega (arith, l .inv .1 .walked .same-length, s .pre .1 .1 .1)) a (t .ensures .0) (c .before .if1 .left) (t .ensures .1)
           (open-target (s .args .c .now) (s .pre .1 .0) (l .block) (getD (s .args .actions .now) (l .i) 0) (t .result) (l .inv .1 .block-there) a (t .ensures .0) (c .before .if1 .left))
           (c .label-of2 .ensures),
     )
@@ -90,14 +90,14 @@ same-length-2 : tie.Need-same-length-2 Inv-loop μ-loop
 same-length-2 c =
     let s = c .before .before .before .before .before .before .args in
     let l = c .before .loop in
-    walk-old (s .c .now) (s .actions .now) (s .labels .now) (c .before .before .label-of .result) (l .i) (l .block) (l .labels) (l .inv .1) .same-length
+    walk-old (s .c .now) (s .actions .now) (s .labels .now) (c .before .before .label-of .result) (l .i) (l .block) (l .labels) (l .inv .1) .walked .same-length
 
 returns-2 : tie.Need-returns-2 Inv-loop μ-loop
 returns-2 c =
     let s = c .before .before .before .before .before .before .args in
     let l = c .before .loop in
     let k = walk-old (s .c .now) (s .actions .now) (s .labels .now) (c .before .before .label-of .result) (l .i) (l .block) (l .labels) (l .inv .1) in
-    walk-whole (s .c .now) (s .actions .now) (s .labels .now) (l .labels) (l .i) (l .block) k (omega arith) (omega (arith, k .same-length, c .before .before .before .before .before .before .pre .1 .1 .1))
+    walk-whole (s .c .now) (s .actions .now) (s .labels .now) (l .labels) (l .i) (l .block) k (omega arith) (omega (arith, k .walked .same-length, c .before .before .before .before .before .before .pre .1 .1 .1))
 
 pub walk-spec : {M : Type 1} → statement M
 walk-spec =

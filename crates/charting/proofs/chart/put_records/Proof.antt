@@ -1,0 +1,105 @@
+use native.Mathlib.Omega.{arith}
+use Prim.Native.Nat.{ℕ, _+_, _*_, _-_, _≤_, _<_}
+use mathlib.Core.Path.{_≡_, refl, ap, _∙_}
+use lib.ListN.{length}
+use Rattle.systems.specs.Lists.{collect}
+use Rattle.sheet.specs.Fields.{actions-limit}
+use Rattle.charting.specs.Stored.{stored, stored-start, stored-more, rows-le, rows-more, rows-small}
+use Rattle.charting.specs.ChartBytes.{orderedBytes, recordsBytes, records-length}
+use Rattle.charting.proofs.chart.put_records.Statement.{statement}
+use Rattle.charting.proofs.chart.put_records.Tie as tie
+
+abbrev Inv-loop : tie.InvT-loop
+Inv-loop s shape homes targets order number n out₀ at₀ k₀ out at k =
+    (k ≤ n) × (length out ≡ length out₀) × (at ≡ 7 + k * (2 + shape .actions)) × (out ≡ stored out₀ 7 (collect (orderedBytes s homes targets order number (shape .actions)) k))
+
+abbrev μ-loop : tie.MeasureT-loop
+μ-loop s shape homes targets order number n out₀ at₀ k₀ out at k = n - k
+
+loop-holds : tie.Need-loop-holds Inv-loop μ-loop
+loop-holds c =
+    let start = c .before .before .before .before .before .before in
+    (omega arith, refl, omega arith, stored-start (orderedBytes (start .args .s .now) (start .args .homes .now) (start .args .targets .now) (start .args .order .now) (start .args .number .now) (start .args .shape .actions)) (start .args .out .now) 7)
+
+shared-slice-read-put-record : tie.Need-shared-slice-read-put-record Inv-loop μ-loop
+shared-slice-read-put-record c = omega arith
+
+cast-put-record : tie.Need-cast-put-record Inv-loop μ-loop
+cast-put-record c = omega (arith, c .shared-slice-known6 .given (c .before .before .loop .k))
+
+put-record-requires : tie.Need-put-record-requires Inv-loop μ-loop
+put-record-requires c κs =
+    let start = c .before .before .before .before .before .before .before .before .before .before in
+    let at = c .before .before .before .loop in
+    let A# = start .args .shape .actions in
+    let limit = actions-limit (start .pre .0) in
+    let w = 2 + A# in
+    let few = rows-small (start .args .n) w (start .pre .1 .1 .1 .1 .1 .0 .0) (omega arith) in
+    let b = start .pre .1 .1 .1 .1 .1 .0 .1 (at .k) (c .before .before .loop-test .taken) in
+    (start .pre .0, (start .pre .1 .0, (start .pre .1 .1 .0, (start .pre .1 .1 .1 .1 .0, (b, omega (arith, rows-le (at .k) (start .args .n) w (c .before .before .loop-test .taken)))))))
+
+add-at : tie.Need-add-at Inv-loop μ-loop
+add-at c =
+    let limit = actions-limit (c .before .before .before .before .before .before .before .before .before .before .before .before .before .before .pre .0) in
+    omega arith
+
+add-at-2 : tie.Need-add-at-2 Inv-loop μ-loop
+add-at-2 c =
+    let start = c .before .before .before .before .before .before .before .before .before .before .before .before .before .before in
+    let at = c .before .before .before .before .before .before .before .loop in
+    let A# = start .args .shape .actions in
+    let limit = actions-limit (start .pre .0) in
+    let w = 2 + A# in
+    let few = rows-small (start .args .n) w (start .pre .1 .1 .1 .1 .1 .0 .0) (omega arith) in
+    omega (arith, rows-le (at .k) (start .args .n) w (c .before .before .before .before .before .before .loop-test .taken))
+
+add-k : tie.Need-add-k Inv-loop μ-loop
+add-k c = omega arith
+
+loop-less : tie.Need-loop-less Inv-loop μ-loop
+loop-less c = omega arith
+
+loop-again : tie.Need-loop-again Inv-loop μ-loop
+loop-again c =
+    let start = c .before .before .before .before .before .before .before .before .before .before .before .before .before .before in
+    let at = c .before .before .before .before .before .before .before .loop in
+    let A# = start .args .shape .actions in
+    let limit = actions-limit (start .pre .0) in
+    let w = 2 + A# in
+    let few = rows-small (start .args .n) w (start .pre .1 .1 .1 .1 .1 .0 .0) (omega arith) in
+    let f = c .before .before .before .put-record in (
+      omega arith,
+      omega arith,
+      omega (arith, rows-more (at .k) w),
+      stored-more (orderedBytes (start .args .s .now) (start .args .homes .now) (start .args .targets .now) (start .args .order .now) (start .args .number .now) (start .args .shape .actions)) (start .args .out .now) (at .out) (f .last .1 .1 .1 .1 .1 .1 .0) 7 (at .at) (at .k) (at .inv .3) (f .ensures)
+          (omega (arith, records-length (start .args .s .now) (start .args .homes .now) (start .args .targets .now) (start .args .order .now) (start .args .number .now) A# (at .k))),
+    )
+
+same-length : tie.Need-same-length Inv-loop μ-loop
+same-length c = omega arith
+
+returns : tie.Need-returns Inv-loop μ-loop
+unfolding recordsBytes
+returns c =
+    let start = c .before .before .before .before .before .before .before .before in
+    let at = c .before .loop in
+    let e : at .k ≡ start .args .n = omega arith in
+    at .inv .3 ∙ ap (λ (k : ℕ). stored (start .args .out .now) 7 (collect (orderedBytes (start .args .s .now) (start .args .homes .now) (start .args .targets .now) (start .args .order .now) (start .args .number .now) (start .args .shape .actions)) k)) e
+
+pub put-records-spec : {M : Type 1} → statement M
+put-records-spec =
+    tie.close
+    (tie.spec
+    Inv-loop
+    μ-loop
+    loop-holds
+    shared-slice-read-put-record
+    cast-put-record
+    put-record-requires
+    add-at
+    add-at-2
+    add-k
+    loop-less
+    loop-again
+    same-length
+    returns)

@@ -1,0 +1,150 @@
+-- Making a chart (document 01): what is checked, what is answered, and what the two lent buffers then hold.
+use mathlib.Core.Path.{_≡_, refl, sym, ap, subst, _∙_}
+use mathlib.Core.Bool.{Bool, true, false, not}
+use mathlib.Core.List.{List}
+use Prim.Native.Nat.{ℕ, _+_, _*_, _≤_, _<_}
+use native.Mathlib.Omega.{arith}
+use lib.Dec.{leb}
+use lib.ListN.{length}
+use lib.IntN.{ℤ}
+use borrow.Author.Tests.{le-leb, lt-leb}
+use Rattle.answers.specs.declared.Checked.{Checked}
+use Rattle.answers.specs.declared.Checked.the-variants.{Fine, Refused}
+use Rattle.answers.specs.Stages.{andThen, demand, passed, refused, demand-passed, demand-failed}
+use Rattle.answers.specs.Run.{overwrite}
+use Rattle.model.specs.Sheet.{Sheet}
+use Rattle.model.specs.Blocks.{blocks, tooMany, chartOf, boxListOf}
+use Rattle.refinement.specs.Completed.{completed-blocks, completed-few}
+use Rattle.sheet.specs.declared.Shape.{Shape}
+use Rattle.integers.specs.LittleEndian.{Bytes}
+use Rattle.sheet.specs.Accepted.{stages, accepted}
+use Rattle.sheet.specs.Three.{shapeOf}
+use Rattle.sheet.specs.Check.{sheetCheck}
+use Rattle.sheet.specs.Decode.{decode}
+use Rattle.minimize.specs.Meaning.{Ready}
+use Rattle.minimize.specs.State.{counters-decoded, actions-decoded}
+use Rattle.minimize.specs.declared.Refined.{Refined}
+use Rattle.minimize.specs.declared.Refined.the-variants.{TooMany, Done as Tabled}
+use Rattle.minimize.specs.Steps.{Table, Answered, refused as many, done as tabled}
+use Rattle.charting.specs.declared.Made.{Made}
+use Rattle.charting.specs.declared.Made.the-variants.{Done}
+
+-- how many bytes the chart and the box list take
+unfoldable pub chartSize : Sheet → ℕ
+chartSize s = 7 + length (blocks s) * (2 + s .actions)
+
+unfoldable pub listSize : Sheet → ℕ
+listSize s = length (blocks s) * (1 + 4 * s .counters)
+
+-- 9 for more than 255 blocks; 10 for the first short buffer, chart, then list
+unfoldable pub blockChecks : Sheet → ℕ → ℕ → Checked
+blockChecks s chart list =
+    andThen (demand (not (tooMany s)) 9 0) (andThen (demand (leb (chartSize s) chart) 10 (chartSize s)) (demand (leb (listSize s) list) 10 (listSize s)))
+
+-- all checks, for buffers of given lengths
+unfoldable pub makeChecks : List ℕ → ℕ → ℕ → Checked
+makeChecks s chart list = andThen (sheetCheck s) (blockChecks (decode s) chart list)
+
+-- the answer: the refusal, or the number of blocks
+unfoldable pub madeBy : Checked → Sheet → Made
+madeBy Fine s = Done (length (blocks s))
+madeBy (Refused n p) s = Made.Refused n p
+
+-- what a buffer then holds: unchanged on refusal
+unfoldable pub writtenBy : Checked → List ℕ → List ℕ → List ℕ
+writtenBy Fine front old = overwrite front old
+writtenBy (Refused n p) front old = old
+
+-- What is answered and left in the buffers is what the checks say.
+pub record Makes (checks : Checked) (s : Sheet) (r : Made) (chart chart′ list list′ : List ℕ) : Type 0 where
+  pub answer : r ≡ madeBy checks s
+  pub chart-left : chart′ ≡ writtenBy checks (chartOf s) chart
+  pub list-left : list′ ≡ writtenBy checks (boxListOf 2 s) list
+
+pub makes-refused : {checks : Checked} {n p : ℕ} (s : Sheet) (chart list : List ℕ) → Refused n p ≡ checks → Makes checks s (Made.Refused n p) chart chart list list
+unfolding madeBy writtenBy
+makes-refused {checks} {n} {p} s chart list e =
+    subst (λ (k : Checked). Makes k s (Made.Refused n p) chart chart list list) e (record { answer = refl; chart-left = refl; list-left = refl })
+
+pub makes-done : {checks : Checked} (s : Sheet) (n : ℕ) (chart chart′ list list′ : List ℕ) → Fine ≡ checks → length (blocks s) ≡ n
+    → chart′ ≡ overwrite (chartOf s) chart → list′ ≡ overwrite (boxListOf 2 s) list → Makes checks s (Done n) chart chart′ list list′
+unfolding madeBy writtenBy
+makes-done {checks} s n chart chart′ list list′ e b p q =
+    subst (λ (k : Checked). Makes k s (Done n) chart chart′ list list′) e (record { answer = ap Done (sym b); chart-left = p; list-left = q })
+
+-- the checks behind those of the sheet
+pub many-blocks : (s : Sheet) (chart list : ℕ) → tooMany s ≡ true → Refused 9 0 ≡ blockChecks s chart list
+unfolding blockChecks
+many-blocks s chart list e = refused _ (sym (demand-failed (not (tooMany s)) 9 0 (ap not e)))
+
+module _ {s : List ℕ} {shape : Shape} (R : Ready s shape) {c : List ℤ} {h t : List ℕ} {n : ℕ} (D : Table s shape c h t n) where
+  pub table-blocks : length (blocks (decode s)) ≡ n
+  table-blocks = completed-blocks (decode s) (R .well) (D .completed)
+
+  chart-size : 7 + n * (2 + shape .actions) ≡ chartSize (decode s)
+  unfolding chartSize
+  chart-size =
+      ap (λ (k : ℕ). 7 + k * (2 + shape .actions)) (sym table-blocks) ∙ ap (λ (k : ℕ). 7 + length (blocks (decode s)) * (2 + k)) (actions-decoded R)
+
+  list-size : n * (1 + 4 * shape .counters) ≡ listSize (decode s)
+  unfolding listSize
+  list-size =
+      ap (λ (k : ℕ). k * (1 + 4 * shape .counters)) (sym table-blocks) ∙ ap (λ (k : ℕ). length (blocks (decode s)) * (1 + 4 * k)) (counters-decoded R)
+
+  few-blocks : demand (not (tooMany (decode s))) 9 0 ≡ Fine
+  few-blocks = sym (demand-passed (not (tooMany (decode s))) 9 0 (ap not (completed-few (decode s) (R .well) (D .completed))))
+
+  pub chart-short : (z chart list : ℕ) → z ≡ 7 + n * (2 + shape .actions) → chart < z → Refused 10 z ≡ blockChecks (decode s) chart list
+  unfolding blockChecks
+  chart-short z chart list e l =
+      let q : z ≡ chartSize (decode s) = e ∙ chart-size in
+      passed few-blocks (ap (Refused 10) q ∙ refused _ (sym (demand-failed (leb (chartSize (decode s)) chart) 10 (chartSize (decode s)) (lt-leb (chartSize (decode s)) chart (omega arith)))))
+
+  pub list-short : (z chart list : ℕ) → z ≡ n * (1 + 4 * shape .counters) → 7 + n * (2 + shape .actions) ≤ chart → list < z → Refused 10 z ≡ blockChecks (decode s) chart list
+  unfolding blockChecks
+  list-short z chart list e r l =
+      let q : z ≡ listSize (decode s) = e ∙ list-size in
+      let a = chart-size in
+      passed few-blocks
+      (passed (sym (demand-passed (leb (chartSize (decode s)) chart) 10 (chartSize (decode s)) (le-leb (chartSize (decode s)) chart (omega arith))))
+      (ap (Refused 10) q ∙ demand-failed (leb (listSize (decode s)) list) 10 (listSize (decode s)) (lt-leb (listSize (decode s)) list (omega arith))))
+
+  pub both-fit : (chart list : ℕ) → 7 + n * (2 + shape .actions) ≤ chart → n * (1 + 4 * shape .counters) ≤ list → Fine ≡ blockChecks (decode s) chart list
+  unfolding blockChecks
+  both-fit chart list r l =
+      let a = chart-size in
+      let b = list-size in
+      passed few-blocks
+      (passed (sym (demand-passed (leb (chartSize (decode s)) chart) 10 (chartSize (decode s)) (le-leb (chartSize (decode s)) chart (omega arith))))
+      (demand-passed (leb (listSize (decode s)) list) 10 (listSize (decode s)) (le-leb (listSize (decode s)) list (omega arith))))
+
+-- an accepted sheet is what the refinement is given
+pub accepted-ready : (s : List ℕ) → Bytes s → sheetCheck s ≡ Fine → (shape : Shape) → shape ≡ shapeOf s → Ready s shape
+accepted-ready s B e shape q =
+    subst (Ready s) (sym q) (record { read = record { shaped = stages s e .shape; counters-are = refl; actions-are = refl; regions-are = refl }; well = accepted s B e })
+
+-- the checks of a refused sheet, and of an accepted one
+pub sheet-refused : (s : List ℕ) (chart list n p : ℕ) {r : Checked} → r ≡ sheetCheck s → r ≡ Refused n p → Refused n p ≡ makeChecks s chart list
+unfolding makeChecks
+sheet-refused s chart list n p e q = refused (blockChecks (decode s) chart list) (sym e ∙ q)
+
+pub sheet-passed : (s : List ℕ) (chart list : ℕ) {r : Checked} → r ≡ sheetCheck s → r ≡ Fine → blockChecks (decode s) chart list ≡ makeChecks s chart list
+unfolding makeChecks
+sheet-passed s chart list e q = passed (sym e ∙ q) refl
+
+pub makes-by : {checks checks′ : Checked} (s : Sheet) (r : Made) (chart chart′ list list′ : List ℕ) → checks ≡ checks′ → Makes checks s r chart chart′ list list′
+    → Makes checks′ s r chart chart′ list list′
+makes-by s r chart chart′ list list′ e M = subst (λ (k : Checked). Makes k s r chart chart′ list list′) e M
+
+-- what the refinement answered
+pub answered-many : {s : List ℕ} {shape : Shape} {c : List ℤ} {h t : List ℕ} {r : Refined} → Answered s shape c h t r → r ≡ TooMany → tooMany (decode s) ≡ true
+answered-many (many e) q = e
+answered-many (tabled D) q = let z : _≡_ {A = ℕ} 0 1 = cc in absurd (omega arith)
+
+pub answered-table : {s : List ℕ} {shape : Shape} {c : List ℤ} {h t : List ℕ} {r : Refined} (n : ℕ) → Answered s shape c h t r → r ≡ Tabled n → Table s shape c h t n
+answered-table n (many e) q = let z : _≡_ {A = ℕ} 0 1 = cc in absurd (omega arith)
+answered-table {s} {shape} {c} {h} {t} n (tabled {n = m} D) q = let e : m ≡ n = cc in subst (Table s shape c h t) e D
+
+-- an answer is not both
+pub two-answers : {r : Checked} {n p : ℕ} → r ≡ Fine → r ≡ Refused n p → _≡_ {A = ℕ} 0 1
+two-answers e q = cc

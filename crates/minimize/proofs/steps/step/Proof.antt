@@ -1,0 +1,89 @@
+use native.Mathlib.Omega.{arith}
+use Rattle.minimize.specs.State.{actions-few, region-few, open-at}
+use Rattle.minimize.specs.Steps.{barred-step}
+use borrow.Author.Needs.{needs}
+use Rattle.minimize.proofs.steps.step.Statement.{statement}
+use Rattle.minimize.proofs.steps.step.Tie as tie
+
+move-in-requires : tie.Need-move-in-requires
+move-in-requires c κs =
+    let start = c .before .before .before .before .before in
+    let R = start .pre .0 in
+    let S = start .pre .1 .0 in
+    let (hi, ha) = start .pre .1 .1 in
+    let few = S .working .few in
+    (R .read, (S .homes-room, ((omega arith, ha), region-few R S (start .args .i) hi)))
+
+enum-told : tie.Need-enum-told
+enum-told c = search needs
+
+enum-told-2 : tie.Need-enum-told-2
+enum-told-2 c = search needs
+
+mul-targets : tie.Need-mul-targets
+mul-targets c = let start = c .before .before .before .before .before .before .before .before in omega (arith, start .pre .1 .0 .working .few, start .pre .1 .1, actions-few (start .pre .0))
+
+add-targets : tie.Need-add-targets
+add-targets c = let start = c .before .before .before .before .before .before .before .before in omega (arith, start .pre .1 .0 .working .few, start .pre .1 .1, actions-few (start .pre .0))
+
+slice-write-targets : tie.Need-slice-write-targets
+slice-write-targets c = let start = c .before .before .before .before .before .before .before .before in omega (arith, start .pre .1 .0 .working .few, start .pre .1 .1, actions-few (start .pre .0), start .pre .1 .0 .targets-room)
+
+same-length : tie.Need-same-length
+same-length c = search needs
+
+same-length-2 : tie.Need-same-length-2
+same-length-2 c = search needs
+
+returns : tie.Need-returns
+returns c =
+    let start = c .before .before .before .before .before .before .before .before in
+    let R = start .pre .0 in
+    let S = start .pre .1 .0 in
+    let (hi, ha) = start .pre .1 .1 in
+    let m = c .before .before .move-in in
+    barred-step R S hi ha (m .ensures) (c .enum-told2 .given .1)
+
+lead-requires : tie.Need-lead-requires
+lead-requires c κs =
+    let start = c .before .before .before .before .before .before .before .before .before .before .before .before in
+    let R = start .pre .0 in
+    let S = start .pre .1 .0 in
+    let (hi, ha) = start .pre .1 .1 in
+    let m = c .before .before .before .before .before .before .move-in in
+    (R, (S, ((hi, ha), open-at R S (start .args .i) (start .args .a) hi ha (m .ensures) (c .before .before .before .before .enum-told .given .1))))
+
+same-length-3 : tie.Need-same-length-3
+same-length-3 c = c .before .before .before .before .before .before .cells .given
+
+same-length-4 : tie.Need-same-length-4
+same-length-4 c = c .before .before .before .before .before .homes .given
+
+same-length-5 : tie.Need-same-length-5
+same-length-5 c = c .before .before .before .targets .given
+
+same-length-6 : tie.Need-same-length-6
+same-length-6 c = c .before .flags .given
+
+returns-2 : tie.Need-returns-2
+returns-2 c = c .before .before .before .before .before .before .before .lead .ensures
+
+pub step-spec : {M : Type 1} → statement M
+step-spec =
+    tie.close
+    (tie.spec
+    move-in-requires
+    enum-told
+    enum-told-2
+    mul-targets
+    add-targets
+    slice-write-targets
+    same-length
+    same-length-2
+    returns
+    lead-requires
+    same-length-3
+    same-length-4
+    same-length-5
+    same-length-6
+    returns-2)

@@ -1,0 +1,223 @@
+-- What a step for one action, a turn of a row and the whole refinement give.
+use mathlib.Core.Path.{_≡_, sym, ap, subst, _∙_}
+use mathlib.Core.Bool.{true, false}
+use mathlib.Core.List.{List}
+use Prim.Native.Nat.{ℕ, _+_, _*_, _≤_, _<_}
+use native.Mathlib.Numerals.{add-one}
+use native.Mathlib.Omega.{arith}
+use lib.ListN.{set}
+use lib.Seq.{getD-set-same, getD-set-other}
+use lib.IntN.{ℤ}
+use Rattle.model.specs.Sheet.{regionNumber, Covered}
+use Rattle.model.specs.Blocks.{tooMany}
+use Rattle.refinement.specs.SheetTable.{Completed}
+use Rattle.refinement.specs.Potential.{falling-refl, falling-less, falling-trans, measure, measure-turn}
+use Rattle.refinement.specs.Loop.{rowsPotential}
+use Rattle.sheet.specs.declared.Shape.{Shape}
+use Rattle.sheet.specs.declared.Config.{Config}
+use Rattle.sheet.specs.declared.Move.the-variants.{Barred}
+use Rattle.sheet.specs.declared.RegionMove.{RegionMove}
+use Rattle.sheet.specs.Decode.{decode}
+use Rattle.sheet.specs.Three.{configMeant, startThree}
+use Rattle.sheet.specs.Space.{ValuesWithin, landThree}
+use Rattle.sheet.specs.Bounded.{RangesWithin}
+use Rattle.minimize.specs.declared.Refined.{Refined}
+use Rattle.minimize.specs.declared.Refined.the-variants.{TooMany, Done}
+use Rattle.minimize.specs.Arrays.{CellsRoom, HomesRoom, TargetsRoom, FlagsRoom, configIn, rangesIn, regionIn, targetIn, flagIn, LastRaised}
+use Rattle.minimize.specs.Meaning.{Ready, rowIn, holdsIn, Found, moveIn, newCells, newHomes}
+use Rattle.minimize.specs.State.{State, Fell, OpenAt, state-append, open-new, landed-new, state-many, state-end, state-done, state-first, start-covered, state-barred, barred-at, ranges-bounded, values-bounded, landing-covered}
+use Rattle.minimize.specs.Cutting.{Settled, state-settled}
+
+-- From one state to another with at least as many rows.
+pub record Going (s : List ℕ) (shape : Shape) (c : List ℤ) (h f : List ℕ) (n : ℕ) (c′ : List ℤ) (h′ t′ f′ : List ℕ) (i a r : ℕ) : Type 0 where
+  pub more : n ≤ r
+  pub state : State s shape c′ h′ t′ f′ r i a
+  pub fell : Fell (shape .counters) c h f n c′ h′ f′ r
+
+-- Such a state, or more than 255 rows: then the sheet has too many blocks.
+pub record Outcome (s : List ℕ) (shape : Shape) (c : List ℤ) (h f : List ℕ) (n : ℕ) (c′ : List ℤ) (h′ t′ f′ : List ℕ) (i a r : ℕ) : Type 0 where
+  pub many : 255 < r → tooMany (decode s) ≡ true
+  pub going : r ≤ 255 → Going s shape c h f n c′ h′ t′ f′ i a r
+
+module _ {s : List ℕ} {shape : Shape} {c c′ : List ℤ} {h f h′ t′ f′ : List ℕ} {n i a r : ℕ} where
+  pub going-on : Going s shape c h f n c′ h′ t′ f′ i a r → Outcome s shape c h f n c′ h′ t′ f′ i a r
+  going-on G = record { many = λ l. let b = G .state .working .few in absurd (omega arith); going = λ l. G }
+
+  pub too-many : 255 < r → tooMany (decode s) ≡ true → Outcome s shape c h f n c′ h′ t′ f′ i a r
+  too-many l e = record { many = λ k. e; going = λ k. absurd (omega arith) }
+
+  -- one after the other
+  pub then-outcome : {c″ : List ℤ} {h″ t″ f″ : List ℕ} {b q : ℕ} → Going s shape c h f n c′ h′ t′ f′ i a r → Outcome s shape c′ h′ f′ r c″ h″ t″ f″ i b q
+      → Outcome s shape c h f n c″ h″ t″ f″ i b q
+  then-outcome G O =
+      record {
+        many = O .many;
+        going = λ l.
+            let H = O .going l in
+            let x = G .more in
+            let y = H .more in
+            record { more = omega arith; state = H .state; fell = falling-trans (G .fell) (H .fell) };
+      }
+
+pub going-stay : {s : List ℕ} {shape : Shape} {c : List ℤ} {h t f : List ℕ} {n i a : ℕ} → State s shape c h t f n i a → Going s shape c h f n c h t f i a n
+going-stay {shape = shape} {c = c} {h = h} {f = f} {n = n} S = record { more = omega arith; state = S; fell = falling-refl (rowsPotential n (rowIn (shape .counters) c h)) (flagIn f) n }
+
+-- A new row: the state with it, in which its landing is in it.
+pub record Appended (s : List ℕ) (shape : Shape) (c : List ℤ) (h t f : List ℕ) (n i a : ℕ) (m : RegionMove) (c′ : List ℤ) (h′ f′ : List ℕ) : Type 0 where
+  pub state : State s shape c′ h′ t f′ (n + 1) i a
+  pub opens : OpenAt s shape c′ h′ i a m
+  pub lands : holdsIn (shape .counters) c′ h′ (landThree m (configIn c′ h′ i)) n ≡ true
+  pub fell : Fell (shape .counters) c h f n c′ h′ f′ (n + 1)
+
+module _ {s : List ℕ} {shape : Shape} (R : Ready s shape) {c : List ℤ} {h t f : List ℕ} {n i a : ℕ} (S : State s shape c h t f n i a) (hi : i < n) (ha : a < shape .actions)
+    {m : RegionMove} (O : OpenAt s shape c h i a m) (x y : Config) (ex : x ≡ landThree m y) (ey : y ≡ configIn c h i) where
+  next-is : x ≡ landThree m (configIn c h i)
+  next-is = ex ∙ ap (landThree m) ey
+
+  pub found-in : {j : ℕ} → Found (shape .counters) c h x n j → j < n → holdsIn (shape .counters) c h (landThree m (configIn c h i)) j ≡ true
+  found-in {j} F l = ap (λ (z : Config). holdsIn (shape .counters) c h z j) (sym next-is) ∙ F .inside l
+
+  pub found-out : {j : ℕ} → Found (shape .counters) c h x n j → n ≤ j → (k : ℕ) → k < n → holdsIn (shape .counters) c h (landThree m (configIn c h i)) k ≡ false
+  found-out {j} F l k q =
+      let b = F .few in
+      ap (λ (z : Config). holdsIn (shape .counters) c h z k) (sym next-is) ∙ F .none (omega arith) k q
+
+  pub next-covered : Covered (decode s) (configMeant (shape .counters) x)
+  next-covered = subst (λ (z : Config). Covered (decode s) (configMeant (shape .counters) z)) (sym next-is) (landing-covered R S i a hi O)
+
+  -- the values of the row's representative are within bounds
+  pub values-known : ValuesWithin 1000000 (y .values)
+  values-known = subst (λ (z : Config). ValuesWithin 1000000 (z .values)) (sym ey) (values-bounded R S i hi)
+
+  -- the landing was in row j
+  pub led : {j : ℕ} (c′ : List ℤ) (t′ f′ : List ℕ) → Found (shape .counters) c h x n j → j < n → t′ ≡ set t (255 * a + i) j → Settled (m .rules) (shape .actions) c t′ f n i j c′ f′
+      → Outcome s shape c h f n c′ h t′ f′ i (a + 1) n
+  led {j} c′ t′ f′ F l et E =
+      let (Q, p) = state-settled R S hi ha O j l (found-in F l) c′ t′ f′ et E in
+      going-on (record { more = omega arith; state = Q; fell = p })
+
+  -- it was in none, and there are 255
+  pub led-many : {j : ℕ} (c′ : List ℤ) (h′ t′ f′ : List ℕ) → Found (shape .counters) c h x n j → n ≤ j → n ≡ 255 → Outcome s shape c h f n c′ h′ t′ f′ i (a + 1) 256
+  led-many {j} c′ h′ t′ f′ F l e = too-many (omega arith) (state-many R S hi O (found-out F l) e)
+
+  -- it was in none, and came as a new row
+  pub appended : {j : ℕ} (c′ : List ℤ) (h′ f′ : List ℕ) → Found (shape .counters) c h x n j → n ≤ j → n < 255 → c′ ≡ newCells (shape .counters) s c n x
+      → h′ ≡ newHomes (shape .counters) s h n x → f′ ≡ set f n 1 → Appended s shape c h t f n i a m c′ h′ f′
+  appended {j} c′ h′ f′ F l hn ec eh ef =
+      subst (λ (v : List ℤ). Appended s shape c h t f n i a m v h′ f′) (sym ec)
+      (subst (λ (v : List ℕ). Appended s shape c h t f n i a m (newCells (shape .counters) s c n x) v f′) (sym eh)
+      (subst (λ (v : List ℕ). Appended s shape c h t f n i a m (newCells (shape .counters) s c n x) (newHomes (shape .counters) s h n x) v) (sym ef)
+      (subst (λ (z : Config). Appended s shape c h t f n i a m (newCells (shape .counters) s c n z) (newHomes (shape .counters) s h n z) (set f n 1)) (sym next-is) base)))
+    where
+      base : Appended s shape c h t f n i a m (newCells (shape .counters) s c n (landThree m (configIn c h i))) (newHomes (shape .counters) s h n (landThree m (configIn c h i))) (set f n 1)
+      base =
+          let (Q, p) = state-append R S hi O (found-out F l) hn in
+          record {
+            state = Q;
+            opens = open-new R S hi O (found-out F l) hn;
+            lands = landed-new R S hi O (found-out F l) hn;
+            fell =
+                subst
+                (λ (k : ℕ). Fell (shape .counters) c h f n (newCells (shape .counters) s c n (landThree m (configIn c h i))) (newHomes (shape .counters) s h n (landThree m (configIn c h i))) (set f n 1) k)
+                (sym (add-one n)) (falling-less p);
+          }
+
+module _ {s : List ℕ} {shape : Shape} (R : Ready s shape) {c c₁ : List ℤ} {h t f h₁ f₁ : List ℕ} {n i a : ℕ} {m : RegionMove} (hi : i < n) (ha : a < shape .actions)
+    (A : Appended s shape c h t f n i a m c₁ h₁ f₁) where
+  pub new-bounded : RangesWithin 1000000 (rangesIn c₁ n)
+  new-bounded = ranges-bounded R (A .state) n (omega arith)
+
+  pub led-new : (c′ : List ℤ) (t′ f′ : List ℕ) → t′ ≡ set t (255 * a + i) n → Settled (m .rules) (shape .actions) c₁ t′ f₁ (n + 1) i n c′ f′
+      → Outcome s shape c h f n c′ h₁ t′ f′ i (a + 1) (n + 1)
+  led-new c′ t′ f′ et E =
+      let (Q, p) = state-settled R (A .state) (omega arith) ha (A .opens) n (omega arith) (A .lands) c′ t′ f′ et E in
+      going-on (record { more = omega arith; state = Q; fell = falling-trans (A .fell) p })
+
+-- the measure of the arrays
+unfoldable pub measureIn : ℕ → List ℤ → List ℕ → List ℕ → ℕ → ℕ
+measureIn V# c h f n = measure (rowsPotential n (rowIn V# c h)) (flagIn f) n
+
+-- What a turn gives: no row in work, and a smaller measure; or too many blocks.
+pub record Turned (s : List ℕ) (shape : Shape) (c : List ℤ) (h f : List ℕ) (n : ℕ) (c′ : List ℤ) (h′ t′ f′ : List ℕ) (r : ℕ) : Type 0 where
+  pub many : 255 < r → tooMany (decode s) ≡ true
+  pub state : r ≤ 255 → State s shape c′ h′ t′ f′ r 255 0
+  pub less : r ≤ 255 → measureIn (shape .counters) c′ h′ f′ r < measureIn (shape .counters) c h f n
+
+pub turned-many : {s : List ℕ} {shape : Shape} {c c′ : List ℤ} {h f h′ t′ f′ : List ℕ} {n r : ℕ} → 255 < r → tooMany (decode s) ≡ true → Turned s shape c h f n c′ h′ t′ f′ r
+turned-many l e = record { many = λ k. e; state = λ k. absurd (omega arith); less = λ k. absurd (omega arith) }
+
+pub turned : {s : List ℕ} {shape : Shape} (R : Ready s shape) {c c′ : List ℤ} {h t f h′ t′ f′ : List ℕ} {n i a r : ℕ} → State s shape c h t f n 255 0 → i < n → 0 < flagIn f i
+    → Going s shape c h (set f i 0) n c′ h′ t′ f′ i a r → a ≡ shape .actions → Turned s shape c h f n c′ h′ t′ f′ r
+unfolding measureIn
+turned {s} {shape} R {c} {c′} {h} {t} {f} {h′} {t′} {f′} {n} {i} {a} {r} S hi up G e =
+    let few = G .state .working .few in
+    let b = S .flags-room in
+    let l = S .working .few in
+    record {
+      many = λ k. absurd (omega arith);
+      state = λ k. state-end R (G .state) e;
+      less = λ k.
+          measure-turn {f = flagIn f} {f₁ = flagIn (set f i 0)} {f′ = flagIn f′} i few hi up (getD-set-same f i 0 0 (omega arith)) (λ j q d. getD-set-other f i j 0 0 d) (G .fell);
+    }
+
+-- What the refinement of n rows gives: no row in work and no flag up, or too many blocks.
+pub record Stable (s : List ℕ) (shape : Shape) (c : List ℤ) (h t f : List ℕ) (r : ℕ) : Type 0 where
+  pub many : 255 < r → tooMany (decode s) ≡ true
+  pub state : r ≤ 255 → State s shape c h t f r 255 0
+  pub quiet : r ≤ 255 → (k : ℕ) → k < r → flagIn f k ≡ 0
+
+pub stable-many : {s : List ℕ} {shape : Shape} {c : List ℤ} {h t f : List ℕ} {r : ℕ} → 255 < r → tooMany (decode s) ≡ true → Stable s shape c h t f r
+stable-many l e = record { many = λ k. e; state = λ k. absurd (omega arith); quiet = λ k. absurd (omega arith) }
+
+pub stable-now : {s : List ℕ} {shape : Shape} {c : List ℤ} {h t f : List ℕ} {n k : ℕ} → State s shape c h t f n 255 0 → LastRaised (flagIn f) n n k → n ≤ k → Stable s shape c h t f n
+stable-now S L l =
+    let b = L .few in
+    let d = S .working .few in
+    record { many = λ q. absurd (omega arith); state = λ q. S; quiet = λ q. L .none (omega arith) }
+
+-- The table of a completed refinement: completed, each row with the number of its region, and all bounds within 1,000,000 of zero.
+pub record Table (s : List ℕ) (shape : Shape) (c : List ℤ) (h t : List ℕ) (n : ℕ) : Type 0 where
+  pub completed : Completed (decode s) n (rowIn (shape .counters) c h) (targetIn t)
+  pub located : (k : ℕ) → k < n → regionIn h k ≡ regionNumber (decode s) (configMeant (shape .counters) (configIn c h k))
+  pub bounded : (k : ℕ) → k < n → RangesWithin 1000000 (rangesIn c k)
+
+-- What the refinement answers.
+pub data Answered (s : List ℕ) (shape : Shape) (c : List ℤ) (h t : List ℕ) : Refined → Type 0 where
+  refused : tooMany (decode s) ≡ true → Answered s shape c h t TooMany
+  done : {n : ℕ} → Table s shape c h t n → Answered s shape c h t (Done n)
+
+pub answer-many : {s : List ℕ} {shape : Shape} {c : List ℤ} {h t f : List ℕ} {r : ℕ} → Stable s shape c h t f r → 255 < r → Answered s shape c h t TooMany
+answer-many S l = refused (S .many l)
+
+pub answer-done : {s : List ℕ} {shape : Shape} (R : Ready s shape) {c : List ℤ} {h t f : List ℕ} {r : ℕ} → Stable s shape c h t f r → r ≤ 255 → Answered s shape c h t (Done r)
+answer-done R S l =
+    let Q = S .state l in
+    done (record { completed = state-done R Q (S .quiet l); located = Q .located; bounded = λ k b. ranges-bounded R Q k b })
+
+-- the step of a barred action
+pub barred-step : {s : List ℕ} {shape : Shape} (R : Ready s shape) {c : List ℤ} {h t f : List ℕ} {n i a : ℕ} (S : State s shape c h t f n i a) → i < n → a < shape .actions → {m : RegionMove}
+    → m ≡ moveIn (shape .counters) s (regionIn h i) a → m .kind ≡ Barred → Outcome s shape c h f n c h (set t (255 * a + i) 255) f i (a + 1) n
+barred-step {s} {shape} R {c} {h} {t} {f} {n} {i} {a} S hi ha {m} e d =
+    going-on
+    (record {
+      more = omega arith;
+      state = state-barred R S hi ha (barred-at R S i a hi ha e d);
+      fell = falling-refl (rowsPotential n (rowIn (shape .counters) c h)) (flagIn f) n;
+    })
+
+-- the loop of a turn: on, or out with too many
+pub then-going : {s : List ℕ} {shape : Shape} {c c′ c″ : List ℤ} {h f h′ t′ f′ h″ t″ f″ : List ℕ} {n i a r b q : ℕ} → Going s shape c h f n c′ h′ t′ f′ i a r
+    → Outcome s shape c′ h′ f′ r c″ h″ t″ f″ i b q → q ≤ 255 → Going s shape c h f n c″ h″ t″ f″ i b q
+then-going G O l = then-outcome G O .going l
+
+-- the first state, as the code makes it
+pub started-covered : {s : List ℕ} {shape : Shape} (R : Ready s shape) (x : Config) → x ≡ startThree s → Covered (decode s) (configMeant (shape .counters) x)
+started-covered {s} {shape} R x e = subst (λ (y : Config). Covered (decode s) (configMeant (shape .counters) y)) (sym e) (start-covered R)
+
+pub started : {s : List ℕ} {shape : Shape} (R : Ready s shape) (x : Config) (c : List ℤ) (h t f : List ℕ) (c′ : List ℤ) (h′ f′ : List ℕ) → CellsRoom c → HomesRoom h → TargetsRoom t → FlagsRoom f
+    → x ≡ startThree s → c′ ≡ newCells (shape .counters) s c 0 x → h′ ≡ newHomes (shape .counters) s h 0 x → f′ ≡ set f 0 1 → State s shape c′ h′ t f′ 1 255 0
+started {s} {shape} R x c h t f c′ h′ f′ rc rh rt rf e ec eh ef =
+    subst (λ (l : List ℤ). State s shape l h′ t f′ 1 255 0) (sym (ec ∙ ap (newCells (shape .counters) s c 0) e))
+    (subst (λ (l : List ℕ). State s shape (newCells (shape .counters) s c 0 (startThree s)) l t f′ 1 255 0) (sym (eh ∙ ap (newHomes (shape .counters) s h 0) e))
+    (subst (λ (l : List ℕ). State s shape (newCells (shape .counters) s c 0 (startThree s)) (newHomes (shape .counters) s h 0 (startThree s)) t l 1 255 0) (sym ef)
+    (state-first R c h t f rc rh rt rf)))

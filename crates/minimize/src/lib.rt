@@ -1,0 +1,14 @@
+// From an accepted sheet to its blocks: representatives with shrinking boxes, in flat arrays that the caller lends.
+pub mod cutting;
+pub mod growth;
+pub mod marks;
+pub mod rows;
+pub mod search;
+pub mod steps;
+pub mod table;
+
+// What the refinement answers: there are more than 255 blocks, or the table is done with so many rows.
+pub enum Refined {
+    TooMany,
+    Done(usize),
+}
