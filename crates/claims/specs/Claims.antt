@@ -12,8 +12,8 @@ use borrow.Author.Tests.{ltb-true, ltb-false, leb-true}
 use Rattle.integers.specs.LittleEndian.{Bytes}
 use Rattle.answers.specs.declared.Checked.{Checked}
 use Rattle.answers.specs.declared.Checked.the-variants.{Fine, Refused}
-use Rattle.answers.specs.Stages.{andThen, demand, then-fine, demand-fine}
-use Rattle.answers.specs.Run.{overwrite}
+use Rattle.answers.specs.Stages.{andThen, demand, passed, then-fine, demand-fine}
+use Rattle.answers.specs.Run.{overwrite, runChecks, ranBy, leftBy}
 use Rattle.model.specs.Sheet.{Sheet, WellFormed, sheetSystem, sheetReading}
 use Rattle.model.specs.Blocks.{blocks, tooMany, chartOf}
 use Rattle.model.specs.Chart.{AllBelow, recordAt}
@@ -23,8 +23,10 @@ use Rattle.sheet.specs.Layout.{actionsOf}
 use Rattle.sheet.specs.Decode.{decode}
 use Rattle.sheet.specs.Check.{sheetCheck}
 use Rattle.sheet.specs.Accepted.{accepted}
+use Rattle.sheet.specs.RunSheet.{sheetRunCheck, sheetRan, sheetLeft}
 use Rattle.chart.specs.Check.{chartCheck}
-use Rattle.chart.specs.OfSheet.{chart-accepted}
+use Rattle.chart.specs.OfSheet.{chart-accepted, runs-agree}
+use Rattle.chart.specs.RunChart.{chartRan, chartLeft as runLeft}
 use Rattle.charting.specs.declared.Made.{Made}
 use Rattle.charting.specs.declared.Made.the-variants.{Done}
 use Rattle.charting.specs.Making.{blockChecks, makeChecks, madeBy, writtenBy}
@@ -87,12 +89,28 @@ chart-written s chart list n e =
     ap (λ (c : Checked). take (7 + n * (2 + actionsOf s)) (writtenBy c (chartOf (decode s)) chart)) f
     ∙ take-at (chartOf (decode s)) (drop (length (chartOf (decode s))) chart) (7 + n * (2 + actionsOf s)) (chart-length s n (M .count))
 
--- Demand 2: what was made is accepted by the chart's check, the blocks are those of the minimal reachable graph, and refusal 9 means 256 reached
--- configurations, no two of which read alike.
+-- Demand 2: what was made is accepted by the chart's check, a run on it gives what the run on the sheet gives, for every sequence and buffer, the blocks
+-- are those of the minimal reachable graph, and refusal 9 means 256 reached configurations, no two of which read alike.
 pub record Demand2 (s : List ℕ) (m : Made) (chart : List ℕ) : Type 0 where
   pub chart-accepted : (n : ℕ) → m ≡ Done n → chartCheck (take (7 + n * (2 + actionsOf s)) chart) ≡ Fine
   pub chart-right : (n : ℕ) → m ≡ Done n → ChartRight (decode s) × (take (7 + n * (2 + actionsOf s)) chart ≡ chartOf (decode s))
+  pub runs-alike : (n : ℕ) → m ≡ Done n → (w labels : List ℕ)
+      → (chartRan (take (7 + n * (2 + actionsOf s)) chart) w (length labels) ≡ sheetRan s w (length labels))
+      × (runLeft (take (7 + n * (2 + actionsOf s)) chart) w labels ≡ sheetLeft s w labels)
   pub blocks-minimal : sheetCheck s ≡ Fine → MinimalReachable (decode s)
+
+-- a run on the sheet that was accepted
+run-read : (s w : List ℕ) (k : ℕ) → sheetCheck s ≡ Fine → runChecks (actionsOf s) w k ≡ sheetRunCheck s w k
+unfolding sheetRunCheck
+run-read s w k a = passed a refl
+
+runs-of : (s : List ℕ) → Bytes s → sheetCheck s ≡ Fine → length (blocks (decode s)) ≤ 255 → (w labels : List ℕ)
+    → (chartRan (chartOf (decode s)) w (length labels) ≡ sheetRan s w (length labels)) × (runLeft (chartOf (decode s)) w labels ≡ sheetLeft s w labels)
+unfolding sheetRan sheetLeft decode
+runs-of s B a few w labels =
+    let (p, q) = runs-agree (decode s) (accepted s B a) few w labels in
+    let e = run-read s w (length labels) a in
+    (sym p ∙ ap (λ (c : Checked). ranBy c (sheetReading (decode s) w)) e, sym q ∙ ap (λ (c : Checked). leftBy c (sheetReading (decode s) w) labels) e)
 
 pub demand-2 : (s chart list : List ℕ) → Bytes s → Demand2 s (made s chart list) (chartLeft s chart list)
 demand-2 s chart list B =
@@ -103,6 +121,12 @@ demand-2 s chart list B =
       chart-right = λ n e.
           let M = makes s chart list n e .1 in
           (chart-right (decode s) (accepted s B (M .accepts)) (M .few), chart-written s chart list n e);
+      runs-alike = λ n e w labels.
+          let M = makes s chart list n e .1 in
+          subst
+          (λ (c : List ℕ). (chartRan c w (length labels) ≡ sheetRan s w (length labels)) × (runLeft c w labels ≡ sheetLeft s w labels))
+          (sym (chart-written s chart list n e))
+          (runs-of s B (M .accepts) (M .few) w labels);
       blocks-minimal = λ a. minimal-reachable (decode s) (accepted s B a);
     }
 
