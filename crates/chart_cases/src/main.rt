@@ -250,9 +250,12 @@ fn show_runs(c: &mut [u8; 2600], w: &[u8; 4097]) {
 
 fn show_refused(c: &mut [u8; 2600], w: &mut [u8; 4097]) {
     changed_run(b"barred at once", c, w, 9, 255);
-    w[1] = 1;
-    show_run(b"action 1 of 1", c, 16, w, 3, 1);
-    w[1] = 0;
+    w[0] = 1;
+    show_run(b"first action not below 1", c, 16, w, 3, 1);
+    w[0] = 0;
+    w[4095] = 1;
+    show_run(b"last action not below 1", c, 16, w, 4096, 1);
+    w[4095] = 0;
     show_run(b"chart one byte short", c, 15, w, 4097, 0);
 }
 
