@@ -1,33 +1,10 @@
 // Checks and runs charts at their extremes: each refusal at its first and last possible place, 1 and 255 blocks, the most rounds,
 // runs of 0 to 4,097 actions. Its output is stored.
 ghost use Prim.Native.Nat.{_≤_};
-use answers::Checked;
-use answers::Ending;
-use answers::Ran;
-use libc::STDOUT_FILENO;
-
-fn put(s: &[u8]) {
-    io::write_all(STDOUT_FILENO, s);
-}
-
-fn put_number(n: usize) {
-    io::print_decimal(STDOUT_FILENO, n as u64);
-}
-
-fn put_refusal(number: u8, returned: usize) {
-    put(b"refused ");
-    put_number(number as usize);
-    put(b" at ");
-    put_number(returned);
-    put(b"\n");
-}
-
-fn put_checked(r: Checked) {
-    match r {
-        Checked::Fine => put(b"fine\n"),
-        Checked::Refused { number, returned } => put_refusal(number, returned),
-    }
-}
+use text::put;
+use text::put_checked;
+use text::put_labels;
+use text::put_ran;
 
 // The check of the first bytes of c.
 fn show(name: &[u8], c: &[u8], len: usize) {
@@ -176,46 +153,6 @@ fn show_alike(c: &mut [u8; 2600]) {
     show(b"block 254 like 253", c, 2557);
     changed(b"block 254 unlike 253", c, 2557, 2547, 30);
     show(b"one byte short", c, 2556);
-}
-
-fn wide(x: u16) -> usize {
-    x as usize
-}
-
-// Four entries of a buffer.
-fn put_labels(labels: &[u16; 4100], at: usize) {
-    if at < 4096 {
-        put_number(wide(labels[at]));
-        put(b" ");
-        put_number(wide(labels[at + 1]));
-        put(b" ");
-        put_number(wide(labels[at + 2]));
-        put(b" ");
-        put_number(wide(labels[at + 3]));
-        put(b"\n");
-    }
-}
-
-fn put_ending(e: Ending) {
-    match e {
-        Ending::Whole => put(b"whole"),
-        Ending::Barred { index } => {
-            put(b"barred at ");
-            put_number(index);
-        }
-    }
-}
-
-fn put_ran(r: Ran) {
-    match r {
-        Ran::Done { labels, ending } => {
-            put_number(labels);
-            put(b" labels, ");
-            put_ending(ending);
-            put(b"\n");
-        }
-        Ran::Refused { number, returned } => put_refusal(number, returned),
-    }
 }
 
 // A run of the first n actions with a buffer of room entries.

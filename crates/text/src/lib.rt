@@ -1,4 +1,7 @@
 // Text on standard output, for the programs. What a program writes is tested, not proved.
+use answers::Checked;
+use answers::Ending;
+use answers::Ran;
 use libc::STDOUT_FILENO;
 
 pub fn put(s: &[u8]) {
@@ -16,5 +19,60 @@ pub fn put_signed(z: i64) {
         put_number((-1 - z) as u64 + 1);
     } else {
         put_number(z as u64);
+    }
+}
+
+pub fn put_refusal(number: u8, returned: usize) {
+    put(b"refused ");
+    put_number(number as u64);
+    put(b" at ");
+    put_number(returned as u64);
+    put(b"\n");
+}
+
+pub fn put_checked(r: Checked) {
+    match r {
+        Checked::Fine => put(b"fine\n"),
+        Checked::Refused { number, returned } => put_refusal(number, returned),
+    }
+}
+
+fn put_ending(e: Ending) {
+    match e {
+        Ending::Whole => put(b"whole"),
+        Ending::Barred { index } => {
+            put(b"barred at ");
+            put_number(index as u64);
+        }
+    }
+}
+
+pub fn put_ran(r: Ran) {
+    match r {
+        Ran::Done { labels, ending } => {
+            put_number(labels as u64);
+            put(b" labels, ");
+            put_ending(ending);
+            put(b"\n");
+        }
+        Ran::Refused { number, returned } => put_refusal(number, returned),
+    }
+}
+
+fn wide(x: u16) -> u64 {
+    x as u64
+}
+
+// Four entries of a buffer.
+pub fn put_labels(labels: &[u16; 4100], at: usize) {
+    if at < 4096 {
+        put_number(wide(labels[at]));
+        put(b" ");
+        put_number(wide(labels[at + 1]));
+        put(b" ");
+        put_number(wide(labels[at + 2]));
+        put(b" ");
+        put_number(wide(labels[at + 3]));
+        put(b"\n");
     }
 }
