@@ -8,8 +8,8 @@ use answers::Ran;
 use answers::sequence::check_sequence;
 
 mod bars;
-mod fields;
-mod header;
+pub mod fields;
+pub mod header;
 mod numbering;
 mod rounds;
 mod targets;

@@ -42,18 +42,6 @@ fn put_counter(list: &[u8], at: usize, v: usize)
     put_signed16(list, at + 2);
 }
 
-// The target of action a: a block's number, or - for barred.
-fn put_target(target: usize, a: usize) {
-    text::put(b" a");
-    text::put_number(a as u64);
-    if target == 255 {
-        text::put(b" -");
-    } else {
-        text::put(b" ");
-        text::put_number(target as u64);
-    }
-}
-
 fn put_counters(list: &[u8], at: usize, counters: usize)
     requires { ⌜ (at < 5000) × (counters < 256) ⌝ }
 {
@@ -66,7 +54,7 @@ fn put_targets(chart: &[u8], at: usize, actions: usize)
     requires { ⌜ (at < 5000) × (actions < 256) ⌝ }
 {
     for a in 0..actions {
-        put_target(byte(chart, at + a), a);
+        text::put_target(byte(chart, at + a) as u8, a);
     }
 }
 
@@ -117,20 +105,8 @@ fn put_chart(sheet: &[u8], chart: &[u8], list: &[u8], blocks: usize) {
     if blocks > 255 {
         return;
     }
-    text::put(b"chart ");
-    text::put_number(blocks as u64);
-    text::put(b" blocks ");
-    text::put_number(actions as u64);
-    text::put(b" actions\n");
+    text::put_header(blocks, actions);
     put_blocks(chart, list, counters, actions, blocks);
-}
-
-fn put_refusal(number: u8, returned: usize) {
-    text::put(b"refused ");
-    text::put_number(number as u64);
-    text::put(b" at ");
-    text::put_number(returned as u64);
-    text::put(b"\n");
 }
 
 // The listing of a sheet.
@@ -140,7 +116,7 @@ fn list_sheet(sheet: &[u8]) {
     let made = charting::making::make(sheet, &mut chart, &mut list);
     match made {
         Made::Done { blocks } => put_chart(sheet, &chart, &list, blocks),
-        Made::Refused { number, returned } => put_refusal(number, returned),
+        Made::Refused { number, returned } => text::put_refusal(number, returned),
     }
 }
 

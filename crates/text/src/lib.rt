@@ -30,6 +30,27 @@ pub fn put_refusal(number: u8, returned: usize) {
     put(b"\n");
 }
 
+// The first line of a chart's listing.
+pub fn put_header(blocks: usize, actions: usize) {
+    put(b"chart ");
+    put_number(blocks as u64);
+    put(b" blocks ");
+    put_number(actions as u64);
+    put(b" actions\n");
+}
+
+// The target of action a: a block's number, or - for barred.
+pub fn put_target(target: u8, a: usize) {
+    put(b" a");
+    put_number(a as u64);
+    if target == 255 {
+        put(b" -");
+    } else {
+        put(b" ");
+        put_number(target as u64);
+    }
+}
+
 pub fn put_checked(r: Checked) {
     match r {
         Checked::Fine => put(b"fine\n"),

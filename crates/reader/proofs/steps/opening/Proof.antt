@@ -1,0 +1,23 @@
+use Rattle.reader.specs.Steps.{opened-as}
+use borrow.Author.Needs.{needs}
+use Rattle.reader.proofs.steps.opening.Statement.{statement}
+use Rattle.reader.proofs.steps.opening.Tie as tie
+use Rattle.reader.proofs.steps.opening.Reads as reads
+use Rattle.reader.proofs.steps.opening.Lts as lts
+use Rattle.chart.proofs.check.Reads as check-reads
+use Rattle.reader.proofs.steps.first_next.Reads as first-next-reads
+
+check-requires : tie.Need-check-requires
+check-requires c κs = search needs
+
+first-next-requires : tie.Need-first-next-requires
+first-next-requires c κs = search needs
+
+returns : tie.Need-returns
+returns c =
+    let e = c .before .check .ensures in
+    let q = c .first-next .ensures in
+    opened-as (c .before .before .before .args .c .now) e q
+
+pub opening-spec : {M : Type 1} → statement M
+opening-spec = tie.close (tie.spec check-requires first-next-requires returns)
