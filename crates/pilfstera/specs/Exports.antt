@@ -1,0 +1,45 @@
+-- Answers as C sees them: document 01's number of a refusal, 0 where it was done, and what is returned.
+use Prim.Native.Nat.{ℕ}
+use Rattle.answers.specs.declared.Checked.{Checked}
+use Rattle.answers.specs.declared.Checked.the-variants.{Fine, Refused}
+use Rattle.answers.specs.declared.Ending.{Ending}
+use Rattle.answers.specs.declared.Ending.the-variants.{Whole, Barred}
+use Rattle.answers.specs.declared.Ran.{Ran}
+use Rattle.charting.specs.declared.Made.{Made}
+
+-- a check: 0 and 0 where it passed
+unfoldable pub checkNumber : Checked → ℕ
+checkNumber Fine = 0
+checkNumber (Refused n p) = n
+
+unfoldable pub checkReturned : Checked → ℕ
+checkReturned Fine = 0
+checkReturned (Refused n p) = p
+
+-- a run: 0 and the number of labels written where it was done
+unfoldable pub runNumber : Ran → ℕ
+runNumber (Ran.Done l e) = 0
+runNumber (Ran.Refused n p) = n
+
+unfoldable pub runReturned : Ran → ℕ
+runReturned (Ran.Done l e) = l
+runReturned (Ran.Refused n p) = p
+
+-- the index of the barred action, or the length of the sequence where nothing was barred
+unfoldable pub endingIndex : Ending → ℕ → ℕ
+endingIndex Whole actions = actions
+endingIndex (Barred k) actions = k
+
+-- the same of a run; where it was refused, what the parameter held before
+unfoldable pub runBarred : Ran → ℕ → ℕ → ℕ
+runBarred (Ran.Done l e) actions old = endingIndex e actions
+runBarred (Ran.Refused n p) actions old = old
+
+-- making a chart: 0 and the number of blocks where it was done
+unfoldable pub makeNumber : Made → ℕ
+makeNumber (Made.Done n) = 0
+makeNumber (Made.Refused n p) = n
+
+unfoldable pub makeReturned : Made → ℕ
+makeReturned (Made.Done n) = n
+makeReturned (Made.Refused n p) = p

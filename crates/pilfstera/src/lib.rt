@@ -1,0 +1,159 @@
+// The library that C and Rust programs link. An answer enum cannot cross to C: each function returns 0 where it was done, else the
+// refusal's number, and stores through `returned` what document 01's table says is returned. A slice passes as a pointer, then a length.
+ghost use mathlib.Core.Path.{_≡_};
+ghost use lib.ListN.{length};
+ghost use Rattle.model.specs.Blocks.{chartOf, boxListOf};
+ghost use Rattle.sheet.specs.Check.{sheetCheck};
+ghost use Rattle.sheet.specs.Decode.{decode};
+ghost use Rattle.sheet.specs.RunSheet.{sheetRan, sheetLeft};
+ghost use Rattle.chart.specs.Check.{chartCheck};
+ghost use Rattle.chart.specs.RunChart.{chartRan, chartLeft};
+ghost use Rattle.charting.specs.Making.{makeChecks, madeBy, writtenBy};
+ghost use Rattle.pilfstera.specs.Exports.{checkNumber, checkReturned, runNumber, runReturned, runBarred, makeNumber, makeReturned, endingIndex};
+use answers::Checked;
+use answers::Ending;
+use answers::Ran;
+use charting::Made;
+
+// Stores what a check returns, and gives its number.
+fn told_check(checked: Checked, returned: &mut usize) -> u8
+    ensures { λ r. ⌜ r ≡ checkNumber checked ⌝ }
+    ensures { λ _. ⌜ now (returned .exit) ≡ checkReturned checked ⌝ }
+{
+    match checked {
+        Checked::Fine => {
+            *returned = 0;
+            0
+        }
+        Checked::Refused {
+            number,
+            returned: value,
+        } => {
+            *returned = value;
+            number
+        }
+    }
+}
+
+// Where a reading ended.
+fn ending_index(ending: Ending, actions: usize) -> usize
+    ensures { λ r. ⌜ r ≡ endingIndex ending actions ⌝ }
+{
+    match ending {
+        Ending::Whole => actions,
+        Ending::Barred { index } => index,
+    }
+}
+
+// Stores what a run of so many actions returns and where it was barred, and gives its number.
+fn told_run(ran: Ran, actions: usize, returned: &mut usize, barred: &mut usize) -> u8
+    ensures { λ r. ⌜ r ≡ runNumber ran ⌝ }
+    ensures { λ _. ⌜ now (returned .exit) ≡ runReturned ran ⌝ }
+    ensures { λ _. ⌜ now (barred .exit) ≡ runBarred ran actions (now (barred .entry)) ⌝ }
+{
+    match ran {
+        Ran::Done { labels, ending } => {
+            *returned = labels;
+            *barred = ending_index(ending, actions);
+            0
+        }
+        Ran::Refused {
+            number,
+            returned: value,
+        } => {
+            *returned = value;
+            number
+        }
+    }
+}
+
+// Stores what making a chart returns, and gives its number.
+fn told_made(made: Made, returned: &mut usize) -> u8
+    ensures { λ r. ⌜ r ≡ makeNumber made ⌝ }
+    ensures { λ _. ⌜ now (returned .exit) ≡ makeReturned made ⌝ }
+{
+    match made {
+        Made::Done { blocks } => {
+            *returned = blocks;
+            0
+        }
+        Made::Refused {
+            number,
+            returned: value,
+        } => {
+            *returned = value;
+            number
+        }
+    }
+}
+
+// Checks a sheet.
+#[no_mangle]
+pub extern "C" fn pilfstera_check_sheet(sheet: &[u8], returned: &mut usize) -> u8
+    ensures { λ r. ⌜ r ≡ checkNumber (sheetCheck (now (sheet .entry))) ⌝ }
+    ensures { λ _. ⌜ now (returned .exit) ≡ checkReturned (sheetCheck (now (sheet .entry))) ⌝ }
+{
+    told_check(sheet::check(sheet), returned)
+}
+
+// Runs an action sequence on a sheet.
+#[no_mangle]
+pub extern "C" fn pilfstera_run_sheet(
+    sheet: &[u8],
+    actions: &[u8],
+    labels: &mut [u16],
+    returned: &mut usize,
+    barred: &mut usize,
+) -> u8
+    ensures { λ r. ⌜ r ≡ runNumber (sheetRan (now (sheet .entry)) (now (actions .entry)) (length (now (labels .entry)))) ⌝ }
+    ensures { λ _. ⌜ now (labels .exit) ≡ sheetLeft (now (sheet .entry)) (now (actions .entry)) (now (labels .entry)) ⌝ }
+    ensures { λ _. ⌜ now (returned .exit) ≡ runReturned (sheetRan (now (sheet .entry)) (now (actions .entry)) (length (now (labels .entry)))) ⌝ }
+    ensures { λ _. ⌜ now (barred .exit) ≡ runBarred (sheetRan (now (sheet .entry)) (now (actions .entry)) (length (now (labels .entry)))) (length (now (actions .entry))) (now (barred .entry)) ⌝ }
+{
+    let ran = sheet::run(sheet, actions, labels);
+    told_run(ran, actions.len(), returned, barred)
+}
+
+// Checks a chart.
+#[no_mangle]
+pub extern "C" fn pilfstera_check_chart(chart: &[u8], returned: &mut usize) -> u8
+    ensures { λ r. ⌜ r ≡ checkNumber (chartCheck (now (chart .entry))) ⌝ }
+    ensures { λ _. ⌜ now (returned .exit) ≡ checkReturned (chartCheck (now (chart .entry))) ⌝ }
+{
+    told_check(chart::check(chart), returned)
+}
+
+// Runs an action sequence on a chart.
+#[no_mangle]
+pub extern "C" fn pilfstera_run_chart(
+    chart: &[u8],
+    actions: &[u8],
+    labels: &mut [u16],
+    returned: &mut usize,
+    barred: &mut usize,
+) -> u8
+    ensures { λ r. ⌜ r ≡ runNumber (chartRan (now (chart .entry)) (now (actions .entry)) (length (now (labels .entry)))) ⌝ }
+    ensures { λ _. ⌜ now (labels .exit) ≡ chartLeft (now (chart .entry)) (now (actions .entry)) (now (labels .entry)) ⌝ }
+    ensures { λ _. ⌜ now (returned .exit) ≡ runReturned (chartRan (now (chart .entry)) (now (actions .entry)) (length (now (labels .entry)))) ⌝ }
+    ensures { λ _. ⌜ now (barred .exit) ≡ runBarred (chartRan (now (chart .entry)) (now (actions .entry)) (length (now (labels .entry)))) (length (now (actions .entry))) (now (barred .entry)) ⌝ }
+{
+    let ran = chart::run(chart, actions, labels);
+    told_run(ran, actions.len(), returned, barred)
+}
+
+// Makes a sheet's chart and box list, from the front of two buffers.
+#[no_mangle]
+pub extern "C" fn pilfstera_make(
+    sheet: &[u8],
+    chart: &mut [u8],
+    list: &mut [u8],
+    returned: &mut usize,
+) -> u8
+    ensures { λ r. ⌜ r ≡ makeNumber (madeBy (makeChecks (now (sheet .entry)) (length (now (chart .entry))) (length (now (list .entry)))) (decode (now (sheet .entry)))) ⌝ }
+    ensures { λ _. ⌜ now (chart .exit) ≡ writtenBy (makeChecks (now (sheet .entry)) (length (now (chart .entry))) (length (now (list .entry)))) (chartOf (decode (now (sheet .entry)))) (now (chart .entry)) ⌝ }
+    ensures { λ _. ⌜ now (list .exit) ≡ writtenBy (makeChecks (now (sheet .entry)) (length (now (chart .entry))) (length (now (list .entry)))) (boxListOf 2 (decode (now (sheet .entry)))) (now (list .entry)) ⌝ }
+    ensures { λ _. ⌜ now (returned .exit) ≡ makeReturned (madeBy (makeChecks (now (sheet .entry)) (length (now (chart .entry))) (length (now (list .entry)))) (decode (now (sheet .entry)))) ⌝ }
+{
+    let made = charting::making::make(sheet, chart, list);
+    told_made(made, returned)
+}
