@@ -1,0 +1,341 @@
+//! Holds the static library to an independent implementation that lists every configuration, on random sheets and charts of every kind.
+//! It stops at the first difference, with the bytes in hexadecimal, and fails if some kind of answer never came.
+
+mod charts;
+mod generate;
+mod library;
+mod random;
+mod sheets;
+
+use random::Random;
+use sheets::{Made, Reading, Refusal, Sheet};
+use std::collections::BTreeMap;
+use std::process::exit;
+
+/// Above so many configurations, or so many steps of refinement, a damaged sheet is compared no further than refusals 1 to 7.
+const MOST_CONFIGURATIONS: u64 = 200_000;
+const MOST_STEPS: u64 = 5_000_000;
+
+struct Test {
+    rng: Random,
+    kinds: BTreeMap<String, usize>,
+}
+
+fn hex(bytes: &[u8]) -> String {
+    bytes.iter().map(|b| format!("{b:02X}")).collect::<Vec<_>>().join(" ")
+}
+
+/// Stops where the two are not the same.
+fn same<T: PartialEq + std::fmt::Debug>(what: &str, bytes: &[u8], library: T, expected: T) {
+    if library != expected {
+        println!("differs: {what}\nlibrary  {library:?}\nexpected {expected:?}\nbytes {}", hex(bytes));
+        exit(1);
+    }
+}
+
+/// An answer as the library gives it: 0 and a value, or a refusal.
+fn told(answer: Result<usize, Refusal>) -> (u8, usize) {
+    answer.map_or_else(|r| (r.number, r.returned), |value| (0, value))
+}
+
+impl Test {
+    fn count(&mut self, kind: impl Into<String>) {
+        *self.kinds.entry(kind.into()).or_default() += 1;
+    }
+
+    fn noise(&mut self) -> usize {
+        self.rng.next() as usize
+    }
+
+    /// Zero, one short, exact, longer.
+    fn lengths(&mut self, needed: usize) -> [usize; 4] {
+        [0, needed.saturating_sub(1), needed, needed + 1 + self.rng.below(20)]
+    }
+
+    /// One making, in buffers of noise that go on behind their ends.
+    fn make(&mut self, sheet: &[u8], expected: &Result<Made, Refusal>, chart_room: usize, list_room: usize) {
+        let (chart, list) = (self.rng.bytes(chart_room + 40), self.rng.bytes(list_room + 40));
+        let answer = match expected {
+            Err(refusal) => Err(*refusal),
+            Ok(made) if made.chart.len() > chart_room => Err(Refusal { number: 10, returned: made.chart.len() }),
+            Ok(made) if made.list.len() > list_room => Err(Refusal { number: 10, returned: made.list.len() }),
+            Ok(made) => Ok(made),
+        };
+        let (mut chart_left, mut list_left) = (chart.clone(), list.clone());
+        if let Ok(made) = answer {
+            chart_left[..made.chart.len()].copy_from_slice(&made.chart);
+            list_left[..made.list.len()].copy_from_slice(&made.list);
+        }
+        let short = matches!(expected, Ok(made) if made.chart.len() > chart_room);
+        match answer {
+            Ok(_) => self.count("make: done"),
+            Err(Refusal { number: 10, .. }) if short => self.count("make: refused 10 for the chart"),
+            Err(Refusal { number: 10, .. }) => self.count("make: refused 10 for the list"),
+            Err(refusal) => self.count(format!("make: refused {}", refusal.number)),
+        }
+        let (mut chart, mut list, mut returned) = (chart, list, self.noise());
+        let number = library::make(sheet, &mut chart[..chart_room], &mut list[..list_room], &mut returned);
+        same("answer of make", sheet, (number, returned), told(answer.map(|made| made.blocks)));
+        same("chart", sheet, chart, chart_left);
+        same("box list", sheet, list, list_left);
+    }
+
+    /// One run, on a sheet or a chart, in a buffer of noise that goes on behind its end.
+    fn run(&mut self, kind: &str, bytes: &[u8], actions: &[u8], room: usize, expected: &Result<Reading, Refusal>) {
+        let noise: Vec<u16> = (0..room + 10).map(|_| self.rng.next() as u16).collect();
+        let (mut left, mut barred_left) = (noise.clone(), self.noise());
+        let (mut labels, mut barred, mut returned) = (noise, barred_left, self.noise());
+        if let Ok(reading) = expected {
+            left[..reading.labels.len()].copy_from_slice(&reading.labels);
+            barred_left = reading.barred.unwrap_or(actions.len());
+        }
+        let run = if kind == "sheet" { library::run_sheet } else { library::run_chart };
+        let number = run(bytes, actions, &mut labels[..room], &mut returned, &mut barred);
+        let what = format!("run on a {kind}, room {room}, actions {}", hex(actions));
+        same(&what, bytes, (number, returned), told(expected.as_ref().map(|r| r.labels.len()).map_err(|r| *r)));
+        same(&format!("barred index, {what}"), bytes, barred, barred_left);
+        same(&format!("labels, {what}"), bytes, labels, left);
+    }
+
+    /// A sequence of actions, most of them below the number of actions.
+    fn sequence(&mut self, count: usize) -> Vec<u8> {
+        let length = match self.rng.below(60) {
+            0 => self.rng.pick(&[4095, 4096, 4097, 5000]),
+            _ => self.rng.below(14),
+        };
+        let mut actions: Vec<u8> = (0..length).map(|_| self.rng.below(count) as u8).collect();
+        if length > 0 && self.rng.one_in(6) {
+            let at = self.rng.below(length);
+            actions[at] = self.rng.pick(&[count as u8, 255]);
+        }
+        actions
+    }
+
+    /// Runs of an accepted sheet, on it and on its chart, if it has one; or of an accepted chart alone.
+    fn runs(&mut self, on: &[(&str, &[u8])], count: usize, read: impl Fn(&[u8]) -> Reading) {
+        for _ in 0..4 {
+            let actions = self.sequence(count);
+            for room in self.lengths(actions.len() + 1) {
+                let expected = sheets::check_run(&actions, count, room).map(|()| read(&actions));
+                for (kind, bytes) in on {
+                    self.run(kind, bytes, &actions, room, &expected);
+                    self.count(match &expected {
+                        Ok(Reading { barred: None, .. }) => format!("run on a {kind}: whole"),
+                        Ok(_) => format!("run on a {kind}: barred"),
+                        Err(refusal) => format!("run on a {kind}: refused {}", refusal.number),
+                    });
+                }
+            }
+        }
+    }
+
+    /// A run of what is refused: whatever else is wrong, that refusal comes first.
+    fn run_refused(&mut self, kind: &str, bytes: &[u8], refusal: Refusal) {
+        let (actions, room) = (self.sequence(9), self.rng.below(20));
+        self.run(kind, bytes, &actions, room, &Err(refusal));
+        self.count(format!("run on a refused {kind}: refused {}", refusal.number));
+    }
+
+    /// Check, chart, box list and runs of any bytes, taken for a sheet.
+    fn sheet(&mut self, bytes: &[u8]) {
+        let mut returned = self.noise();
+        let number = library::check_sheet(bytes, &mut returned);
+        let read = sheets::check_but_landing(bytes);
+        if read.as_ref().is_ok_and(|s| sheets::configurations(s) > MOST_CONFIGURATIONS) {
+            same("refusals 1 to 7", bytes, number == 0 || number == 8, true);
+            return self.count("skipped but for refusals 1 to 7: too many configurations");
+        }
+        let checked = read.and_then(|s| sheets::check_landing(&s).map(|()| s));
+        same("check of a sheet", bytes, (number, returned), told(checked.as_ref().map(|_| 0).map_err(|r| *r)));
+        match checked {
+            Ok(sheet) => self.accepted(bytes, &sheet),
+            Err(refusal) => {
+                self.count(format!("sheet: refused {}", refusal.number));
+                let (chart_room, list_room) = (self.rng.below(60), self.rng.below(60));
+                self.make(bytes, &Err(refusal), chart_room, list_room);
+                self.run_refused("sheet", bytes, refusal);
+            }
+        }
+    }
+
+    fn accepted(&mut self, bytes: &[u8], sheet: &Sheet) {
+        self.count(format!("sheet: accepted, counters {}", sheet.counters));
+        let read = |actions: &[u8]| sheets::reading(sheet, actions);
+        let Some(expected) = sheets::make(sheet, MOST_STEPS) else {
+            self.count("skipped but for the check and runs: too long to refine");
+            return self.runs(&[("sheet", bytes)], sheet.actions, read);
+        };
+        let Ok(made) = &expected else {
+            self.make(bytes, &expected, 3000, 4000);
+            self.make(bytes, &expected, 0, 0);
+            return self.runs(&[("sheet", bytes)], sheet.actions, read);
+        };
+        self.count(match made.blocks {
+            1 => "chart of 1 block",
+            2..=4 => "chart of 2 to 4 blocks",
+            5..=254 => "chart of 5 to 254 blocks",
+            _ => "chart of 255 blocks",
+        });
+        for chart_room in self.lengths(made.chart.len()) {
+            for list_room in self.lengths(made.list.len()) {
+                self.make(bytes, &expected, chart_room, list_room);
+            }
+        }
+        let mut returned = self.noise();
+        let number = library::check_chart(&made.chart, &mut returned);
+        same("check of the chart made", bytes, (number, returned), (0, 0));
+        self.runs(&[("sheet", bytes), ("chart", &made.chart)], sheet.actions, read);
+    }
+
+    /// Check and runs of any bytes, taken for a chart.
+    fn chart(&mut self, bytes: &[u8]) {
+        let checked = charts::check(bytes);
+        let mut returned = self.noise();
+        let number = library::check_chart(bytes, &mut returned);
+        same("check of a chart", bytes, (number, returned), told(checked.as_ref().map(|_| 0).map_err(|r| *r)));
+        match checked {
+            Ok(chart) => {
+                self.count("chart: accepted");
+                self.runs(&[("chart", bytes)], chart.actions, |actions| charts::reading(&chart, actions));
+            }
+            Err(refusal) => {
+                let record = 2 + usize::from(bytes.get(5).copied().unwrap_or(0));
+                let of = match refusal.number {
+                    12 if (refusal.returned - 7) % record == 0 => " at a record",
+                    12 => " at a target",
+                    _ => "",
+                };
+                self.count(format!("chart: refused {}{of}", refusal.number));
+                self.run_refused("chart", bytes, refusal);
+            }
+        }
+    }
+
+    /// An accepted sheet, its bytes.
+    fn accepted_sheet(&mut self) -> Vec<u8> {
+        loop {
+            let bytes = generate::encode(&generate::sheet(&mut self.rng));
+            if sheets::check_but_landing(&bytes).is_ok_and(|s| sheets::check_landing(&s).is_ok()) {
+                return bytes;
+            }
+        }
+    }
+}
+
+/// The sample sheet's chart, and the answers that document 01 names: the independent implementation is held to them too.
+fn named(test: &mut Test) {
+    let doubled = |start, offset, low| generate::one_counter(start, &[(0, 7, Some((2, offset))), (low, 15, None)]);
+    let counted = |start, last| generate::one_counter(start, &[(0, last - 1, Some((1, 1))), (last, last, None)]);
+    let refused = |number, returned| Err(Refusal { number, returned });
+    let cases = [
+        (doubled(2, 1, 8), Ok(3)),
+        (doubled(2, 2, 8), refused(8, 18)),
+        (doubled(2, 1, 7), refused(6, 27)),
+        (doubled(16, 1, 8), refused(7, 8)),
+        (generate::one_counter(2, &[(-8, 7, Some((-1, -1)))]), Ok(1)),
+        (generate::one_counter(0, &[(0, 1000, Some((2, 0))), (1001, 2000, None)]), Ok(1)),
+        (counted(0, 254), Ok(255)),
+        (counted(0, 255), refused(9, 0)),
+        (counted(1, 255), Ok(255)),
+    ];
+    for (bytes, expected) in &cases {
+        let made = sheets::check_but_landing(bytes).and_then(|s| sheets::make(&s, MOST_STEPS).expect("a small sheet"));
+        same("the independent implementation", bytes, made.as_ref().map(|m| m.blocks).map_err(|r| *r), *expected);
+        test.sheet(bytes);
+    }
+    let sample = sheets::check_but_landing(&cases[0].0).and_then(|s| sheets::make(&s, MOST_STEPS).expect("a small sheet"));
+    let chart = sample.map(|made| hex(&made.chart));
+    same("the sample sheet's chart", &cases[0].0, chart, Ok("42 43 48 01 00 01 03 0A 00 01 0A 00 02 14 00 FF".into()));
+}
+
+fn random_sheets(test: &mut Test, count: usize) {
+    for i in 0..count {
+        let bytes = generate::encode(&generate::sheet(&mut test.rng));
+        test.sheet(&bytes);
+        let accepted = test.accepted_sheet();
+        let damaged = generate::damaged(&mut test.rng, &accepted);
+        test.sheet(&damaged);
+        let refused = generate::refused(&mut test.rng, &accepted, 1 + (i % 8) as u8);
+        test.sheet(&refused);
+    }
+}
+
+/// The chart of an accepted sheet, damaged.
+fn damaged_chart(test: &mut Test, accepted: &[u8]) {
+    let sheet = sheets::check_but_landing(accepted).expect("accepted");
+    if let Some(Ok(made)) = sheets::make(&sheet, MOST_STEPS) {
+        let damaged = generate::damaged(&mut test.rng, &made.chart);
+        test.chart(&damaged);
+    }
+}
+
+/// Sheets of about 255 blocks, and the charts of some of them, damaged.
+fn grids(test: &mut Test, count: usize) {
+    for i in 0..count {
+        let grid = generate::encode(&generate::grid(&mut test.rng));
+        test.sheet(&grid);
+        if i % 4 == 0 {
+            damaged_chart(test, &grid);
+        }
+    }
+}
+
+fn random_charts(test: &mut Test, count: usize) {
+    for _ in 0..count {
+        let bytes = generate::chart(&mut test.rng);
+        test.chart(&bytes);
+        let damaged = generate::damaged(&mut test.rng, &bytes);
+        test.chart(&damaged);
+        let accepted = test.accepted_sheet();
+        damaged_chart(test, &accepted);
+    }
+}
+
+/// Every kind of answer that must have come.
+fn kinds() -> Vec<String> {
+    let numbers = |what: &str, numbers: &[u8]| numbers.iter().map(|n| format!("{what}{n}")).collect::<Vec<_>>();
+    let mut all = numbers("sheet: refused ", &[1, 2, 3, 4, 5, 6, 7, 8]);
+    all.extend(numbers("sheet: accepted, counters ", &[1, 2, 3]));
+    all.extend(numbers("make: refused ", &[1, 2, 3, 4, 5, 6, 7, 8, 9]));
+    all.extend(numbers("chart: refused ", &[1, 2, 3, 4, 13, 14]));
+    all.extend(numbers("run on a refused sheet: refused ", &[1, 2, 3, 4, 5, 6, 7, 8]));
+    all.extend(numbers("run on a refused chart: refused ", &[1, 2, 3, 4, 12, 13, 14]));
+    all.extend(numbers("run on a sheet: refused ", &[3, 10, 11]));
+    all.extend(numbers("run on a chart: refused ", &[3, 10, 11]));
+    let others = [
+        "make: done",
+        "make: refused 10 for the chart",
+        "make: refused 10 for the list",
+        "chart of 1 block",
+        "chart of 2 to 4 blocks",
+        "chart of 5 to 254 blocks",
+        "chart of 255 blocks",
+        "chart: accepted",
+        "chart: refused 12 at a record",
+        "chart: refused 12 at a target",
+        "run on a sheet: whole",
+        "run on a sheet: barred",
+        "run on a chart: whole",
+        "run on a chart: barred",
+    ];
+    all.extend(others.map(String::from));
+    all
+}
+
+fn main() {
+    let numbers: Vec<u64> = std::env::args().skip(1).map(|a| a.parse().expect("a number")).collect();
+    let [count, seed] = numbers[..] else { panic!("usage: library COUNT SEED") };
+    let mut test = Test { rng: Random(seed), kinds: BTreeMap::new() };
+    named(&mut test);
+    random_sheets(&mut test, count as usize);
+    grids(&mut test, count as usize / 40);
+    random_charts(&mut test, count as usize);
+    for (kind, times) in &test.kinds {
+        println!("{times:8} {kind}");
+    }
+    let missing: Vec<String> = kinds().into_iter().filter(|k| !test.kinds.contains_key(k)).collect();
+    if !missing.is_empty() {
+        println!("never came: {}", missing.join("; "));
+        exit(1);
+    }
+}
