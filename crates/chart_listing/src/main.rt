@@ -3,7 +3,7 @@ use answers::Checked;
 use libc::STDIN_FILENO;
 use reader::Handed;
 use reader::block_of;
-use reader::steps::opening;
+use reader::opening_of;
 
 fn wide(x: u8) -> usize {
     x as usize
@@ -46,7 +46,7 @@ fn put_blocks(chart: &[u8], first: usize, actions: u8) {
 }
 
 fn list_chart(chart: &[u8]) {
-    let told = opening(chart);
+    let told = opening_of(chart);
     let answer = told.answer;
     let Checked::Fine = answer else {
         text::put_checked(answer);

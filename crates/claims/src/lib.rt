@@ -1,7 +1,7 @@
 // Two makings of charts, and what is claimed of them (demand 3). The statements stand in specs/Claims.antt.
 ghost use Rattle.claims.specs.Claims.{Demand3};
 use charting::Made;
-use charting::making::make;
+use charting::make;
 
 // The answers of two makings.
 pub struct TwoMade {

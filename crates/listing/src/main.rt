@@ -113,7 +113,7 @@ fn put_chart(sheet: &[u8], chart: &[u8], list: &[u8], blocks: usize) {
 fn list_sheet(sheet: &[u8]) {
     let mut chart = [0u8; 2557];
     let mut list = [0u8; 3315];
-    let made = charting::making::make(sheet, &mut chart, &mut list);
+    let made = charting::make(sheet, &mut chart, &mut list);
     match made {
         Made::Done { blocks } => put_chart(sheet, &chart, &list, blocks),
         Made::Refused { number, returned } => text::put_refusal(number, returned),

@@ -154,6 +154,6 @@ pub extern "C" fn pilfstera_make(
     ensures { λ _. ⌜ now (list .exit) ≡ writtenBy (makeChecks (now (sheet .entry)) (length (now (chart .entry))) (length (now (list .entry)))) (boxListOf 2 (decode (now (sheet .entry)))) (now (list .entry)) ⌝ }
     ensures { λ _. ⌜ now (returned .exit) ≡ makeReturned (madeBy (makeChecks (now (sheet .entry)) (length (now (chart .entry))) (length (now (list .entry)))) (decode (now (sheet .entry)))) ⌝ }
 {
-    let made = charting::making::make(sheet, chart, list);
+    let made = charting::make(sheet, chart, list);
     told_made(made, returned)
 }

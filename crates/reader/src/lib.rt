@@ -7,7 +7,9 @@ use crate::steps::opening;
 use crate::steps::step_at;
 use answers::Checked;
 
-pub mod steps;
+mod steps;
+
+pub use steps::opening as opening_of;
 
 // The caller's chart bytes, and the number of the next block.
 pub struct Reader<'a> {
