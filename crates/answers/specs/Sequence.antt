@@ -26,8 +26,7 @@ action-bad count w i h = sym (demand-failed _ _ _ (le-ltb (getD w i 0) count h))
 pub sequence-long : (count : ℕ) (w : List ℕ) (room : ℕ) → 4096 < length w → Refused 3 (length w) ≡ runChecks count w room
 unfolding runChecks
 sequence-long count w room h =
-    refused (andThen (each (actionCheck count w) (length w)) (demand (leb (length w + 1) room) 10 (length w + 1)))
-    (sym (demand-failed _ _ _ (lt-leb (length w) 4096 h)))
+    refused _ (sym (demand-failed (leb (length w) 4096) 3 (length w) (lt-leb (length w) 4096 h)))
 
 pub sequence-wrong : (count : ℕ) (w : List ℕ) (room : ℕ) {r : Checked} {n p : ℕ} → length w ≤ 4096 → r ≡ each (actionCheck count w) (length w)
     → r ≡ Refused n p → r ≡ runChecks count w room
