@@ -1,8 +1,7 @@
 -- A run of an action sequence (document 01): what is checked, what is answered and what the lent buffer then holds. The same for sheets and charts.
-use mathlib.Core.Path.{_≡_}
 use mathlib.Core.List.{List, _++_}
 use mathlib.Core.Option.{Option, some, none}
-use Prim.Native.Nat.{ℕ, suc, _+_}
+use Prim.Native.Nat.{ℕ, _+_}
 use lib.Dec.{ltb, leb}
 use lib.ListN.{length, getD, drop}
 use Rattle.systems.specs.System.{Reading}

@@ -1,10 +1,10 @@
 -- A chart is accepted exactly where it obeys the chart rules.
-use mathlib.Core.Path.{_≡_, refl, sym, ap, subst, _∙_}
+use mathlib.Core.Path.{_≡_, refl, sym, ap, _∙_}
 use mathlib.Core.Logic.{_↔_, _⊎_, inl, inr, ⊎-elim, Equivalence}
-use mathlib.Core.Bool.{Bool, true, false, not, _||_, _&&_}
+use mathlib.Core.Bool.{Bool, true, false, not, _||_}
 use mathlib.Core.List.{List}
 use mathlib.Core.Option.{Option, some, none}
-use Prim.Native.Nat.{ℕ, zero, suc, _+_, _≤_, _<_}
+use Prim.Native.Nat.{ℕ, zero, suc, _≤_, _<_}
 use native.Mathlib.Omega.{arith}
 use native.Mathlib.Nat.{eq-or-lt-of-le}
 use native.Mathlib.Decide.{decLe, ℕ-discrete}
@@ -12,17 +12,17 @@ use lib.Dec.{T, eqb, ltb, leb}
 use lib.ListN.{length, getD, take}
 use lib.Seq.{ext-getD, getD-take, length-take-le}
 use borrow.Author.Tests.{ltb-true, leb-true, eqb-true, lt-ltb, le-leb, eq-eqb, ne-eqb}
-use Rattle.systems.specs.Search.{run, all, least}
+use Rattle.systems.specs.Search.{all, least}
 use Rattle.systems.specs.Laws.{least-tells, eqb-tells, true-is, is-true, both, all-true, Least, least-least, least-lt}
 use Rattle.answers.specs.declared.Checked.{Checked}
-use Rattle.answers.specs.declared.Checked.the-variants.{Fine, Refused}
+use Rattle.answers.specs.declared.Checked.the-variants.{Fine}
 use Rattle.answers.specs.Stages.{andThen, demand, each, passed, then-fine, demand-fine, each-fine, each-all}
 use Rattle.model.specs.Blocks.{chartMark}
 use Rattle.model.specs.Chart.{actionsOf, blocksOf, recordAt, labelOf, targetOf, nextIn, nextUnnamed, sameTarget, refines, roundClass, ToldApart, ChartRules}
 use Rattle.model.specs.Rounds.{TargetsRight, rounds-told}
-use Rattle.chart.specs.Check.{targetAt, marked, markCheck, countCheck, lengthCheck, headerCheck, targetCheck, targetsCheck, recordCheck, orderCheck, numberCheck, numbersCheck, sameBar, sameBars, barCheck, barsCheck, classCheck, classesCheck, formCheck, chartCheck}
+use Rattle.chart.specs.Check.{targetAt, marked, lengthCheck, headerCheck, targetCheck, targetsCheck, recordCheck, orderCheck, numberCheck, numbersCheck, sameBar, sameBars, barCheck, barsCheck, classCheck, classesCheck, formCheck, chartCheck}
 use Rattle.chart.specs.Shape.{Shaped, record-start}
-use Rattle.chart.specs.Loops.{demand-yes, or-first, or-second, and-both}
+use Rattle.chart.specs.Loops.{demand-yes, or-first, or-second}
 use Rattle.chart.specs.Header.{mark-good, counts-good, length-good, header-passed}
 use Rattle.chart.specs.Classes.{same-barred, same-opened, same-classed}
 

@@ -1,12 +1,11 @@
 -- A well-formed sheet with at most 255 blocks: its chart is accepted, and runs on the two give the same answer and the same buffer.
-use mathlib.Core.Path.{_≡_, refl, sym, ap, _∙_}
+use mathlib.Core.Path.{_≡_, sym, ap, _∙_}
 use mathlib.Core.List.{List}
 use Prim.Native.Nat.{ℕ, _≤_}
 use lib.ListN.{length}
 use Rattle.systems.specs.System.{System, Reading, reading, Alike}
 use Rattle.answers.specs.declared.Checked.{Checked}
 use Rattle.answers.specs.declared.Checked.the-variants.{Fine}
-use Rattle.answers.specs.declared.Ran.{Ran}
 use Rattle.answers.specs.Stages.{andThen}
 use Rattle.answers.specs.Run.{runChecks, ranBy, leftBy}
 use Rattle.model.specs.Sheet.{Sheet, sheetReading, WellFormed}

@@ -1,12 +1,11 @@
 -- A run's answer and buffer by what its checks say.
-use mathlib.Core.Path.{_≡_, refl, sym, ap, _∙_}
+use mathlib.Core.Path.{_≡_}
 use mathlib.Core.List.{List}
 use Prim.Native.Nat.{ℕ}
 use lib.ListN.{length}
-use Rattle.answers.specs.declared.Checked.{Checked}
 use Rattle.answers.specs.declared.Checked.the-variants.{Fine, Refused}
 use Rattle.answers.specs.declared.Ran.{Ran}
-use Rattle.answers.specs.Stages.{andThen, then-fine}
+use Rattle.answers.specs.Stages.{then-fine}
 use Rattle.answers.specs.Run.{runChecks, ranBy, leftBy}
 use Rattle.answers.specs.Walk.{run-done, run-refused}
 use Rattle.model.specs.Chart.{actionsOf, chartReading}

@@ -1,21 +1,20 @@
 -- Refusal 14: exactly where two blocks read alike for every sequence, at the earliest later record.
-use mathlib.Core.Path.{_≡_, refl, sym, ap, _∙_}
+use mathlib.Core.Path.{_≡_, refl, sym}
 use mathlib.Core.Logic.{_↔_, _⊎_, inl, inr, ⊎-elim}
-use mathlib.Core.Bool.{Bool, true, false, not, _||_, _&&_}
+use mathlib.Core.Bool.{Bool, true, false}
 use mathlib.Core.List.{List}
-use Prim.Native.Nat.{ℕ, zero, suc, _+_, _≤_, _<_}
+use Prim.Native.Nat.{ℕ, zero, suc, _≤_, _<_}
 use native.Mathlib.Omega.{arith}
 use native.Mathlib.Nat.{eq-or-lt-of-le}
-use native.Mathlib.Decide.{ℕ-discrete}
 use lib.Dec.{eqb}
 use borrow.Author.Tests.{eqb-false}
 use Rattle.systems.specs.Search.{run}
 use Rattle.systems.specs.System.{Alike}
 use Rattle.answers.specs.declared.Checked.{Checked}
 use Rattle.answers.specs.declared.Checked.the-variants.{Fine, Refused}
-use Rattle.answers.specs.Stages.{andThen, demand, each, passed, each-none, each-one, each-first}
+use Rattle.answers.specs.Stages.{andThen, demand, each, passed, each-first}
 use Rattle.model.specs.Chart.{actionsOf, blocksOf, recordAt, nextIn, nextUnnamed, chartSystem, roundClass}
-use Rattle.model.specs.Rounds.{TargetsRight, rounds-alike}
+use Rattle.model.specs.Rounds.{rounds-alike}
 use Rattle.chart.specs.Check.{markCheck, countCheck, lengthCheck, headerCheck, targetCheck, targetsCheck, recordCheck, orderCheck, numberCheck, numbersCheck, barCheck, barsCheck, classCheck, classesCheck, formCheck, chartCheck}
 use Rattle.chart.specs.Classes.{class-shared}
 use Rattle.chart.specs.Accepted.{Formed, form-passed, class-own, own-apart, classes-own}

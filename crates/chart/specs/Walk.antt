@@ -1,9 +1,8 @@
 -- The walk of an action sequence on a chart.
-use mathlib.Core.Path.{_≡_, refl, sym, ap, _∙_}
+use mathlib.Core.Path.{_≡_, sym, ap, _∙_}
 use mathlib.Core.Logic.{⊎-elim}
 use mathlib.Core.List.{List}
-use mathlib.Core.Option.{some, none}
-use Prim.Native.Nat.{ℕ, _+_, _≤_, _<_}
+use Prim.Native.Nat.{ℕ, _+_, _<_}
 use native.Mathlib.Omega.{arith}
 use lib.ListN.{length, getD, set}
 use Rattle.answers.specs.declared.Checked.the-variants.{Fine}
@@ -11,7 +10,7 @@ use Rattle.answers.specs.declared.Ending.the-variants.{Whole, Barred}
 use Rattle.answers.specs.declared.Ran.the-variants.{Done}
 use Rattle.answers.specs.Run.{ranBy, leftBy}
 use Rattle.answers.specs.Walk as Any
-use Rattle.model.specs.Chart.{actionsOf, blocksOf, labelOf, targetOf, named, chartStep, chartSystem, chartReading}
+use Rattle.model.specs.Chart.{actionsOf, blocksOf, labelOf, targetOf, named, chartSystem, chartReading}
 use Rattle.model.specs.Rounds.{TargetsRight, chartStep-in, named-block, named-barred}
 
 -- After i actions the walk is at a block.

@@ -1,6 +1,6 @@
 -- The bytes of the box list as the arrays give them.
 use mathlib.Core.Bool.{true, false}
-use mathlib.Core.Path.{_≡_, refl, sym, ap, subst, _∙_}
+use mathlib.Core.Path.{_≡_, refl, sym, ap, _∙_}
 use mathlib.Core.List.{List, [], _∷_, _++_}
 use Prim.Native.Nat.{ℕ, zero, suc, _+_, _*_, _/_, _%_, _≤_, _<_}
 use native.Mathlib.Nat.{mod-eq-of-lt}
@@ -11,7 +11,6 @@ use lib.IntN.{ℤ, pos, negsuc, natAbs, _+ℤ_}
 use lib.Signed.{ltZ, nonNeg}
 use mir.Syntax.{w64}
 use mir.Val.{SFits}
-use Rattle.integers.specs.declared.Range.{Range}
 use Rattle.integers.specs.LittleEndian.{split, bitsOf, length-split}
 use Rattle.integers.specs.Order.{up, dn, ltZ-true, ltZ-false, add-parts, fits-out}
 use Rattle.integers.specs.Range.{Within, within-size}

@@ -1,20 +1,19 @@
 -- The bytes of the chart as the arrays give them, and that they are those of the table's chart.
-use mathlib.Core.Path.{_≡_, refl, sym, ap, subst, _∙_}
+use mathlib.Core.Path.{_≡_, refl, sym, ap, _∙_}
 use mathlib.Core.List.{List, [], _∷_, _++_}
-use Prim.Native.Nat.{ℕ, zero, suc, _+_, _*_, _/_, _%_, _≤_, _<_}
+use Prim.Native.Nat.{ℕ, _+_, _*_, _/_, _%_, _≤_, _<_}
 use native.Mathlib.Nat.{add-zero, mod-eq-of-lt}
-use native.Mathlib.Numerals.{add-one}
 use native.Mathlib.Omega.{arith}
 use lib.ListN.{length, getD, drop, length-append}
 use lib.Seq.{getD-drop}
 use Rattle.integers.specs.LittleEndian.{Bytes, split, joined, unsignedAt, length-split}
-use Rattle.systems.specs.Lists.{collect, collect-ext, length-collect, length-each}
+use Rattle.systems.specs.Lists.{collect, length-collect, length-each}
 use Rattle.answers.specs.Run.{overwrite}
 use Rattle.model.specs.Blocks.{chartMark}
 use Rattle.sheet.specs.Layout.{regionPlace, labelAt}
 use Rattle.minimize.specs.Arrays.{regionIn, targetIn}
 use Rattle.charting.specs.Numbers.{entryIn}
-use Rattle.charting.specs.Stored.{stored, stored-length, stored-two, stored-behind, stored-front}
+use Rattle.charting.specs.Stored.{stored, stored-behind, stored-front}
 
 -- mark, version, number of actions, number of blocks
 unfoldable pub headerBytes : ℕ → ℕ → List ℕ

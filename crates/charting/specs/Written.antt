@@ -1,31 +1,30 @@
 -- What is written from the table of a completed refinement is the sheet's chart and its box list.
-use mathlib.Core.Path.{_≡_, refl, sym, ap, subst, _∙_}
-use mathlib.Core.List.{List, [], _∷_, _++_}
+use mathlib.Core.Path.{_≡_, sym, ap, subst, _∙_}
+use mathlib.Core.List.{List, _∷_, _++_}
 use Prim.Native.Nat.{ℕ, zero, suc, _+_, _*_, _≤_, _<_}
 use native.Mathlib.Omega.{arith}
-use lib.ListN.{length, getD}
+use lib.ListN.{getD}
 use lib.IntN.{ℤ, pos}
 use Rattle.integers.specs.declared.Range.{Range}
 use Rattle.integers.specs.LittleEndian.{Bytes, split}
 use Rattle.integers.specs.Order.{ints}
-use Rattle.integers.specs.Range.{Within, within-out, within-size, RangeWithin}
+use Rattle.integers.specs.Range.{Within, RangeWithin}
 use Rattle.systems.specs.Lists.{collect, collect-ext, getD-each, length-each}
 use Rattle.model.specs.Sheet.{Configuration, Region, nowhere, regionNumber, regionOf, Covered, RangeFits, Each, each-none, each-more}
 use Rattle.model.specs.Blocks.{chartMark, chartOf, boxListOf}
 use Rattle.model.specs.Boxes.{Inside, inside-none, inside-more}
-use Rattle.refinement.specs.Table.{SoundRow}
 use Rattle.refinement.specs.Numbering.{walk}
 use Rattle.refinement.specs.Walk.{Numbered}
-use Rattle.refinement.specs.SheetTable.{Row, sheetFrame, row-fits}
+use Rattle.refinement.specs.SheetTable.{row-fits}
 use Rattle.refinement.specs.Completed.{rowRecord, tableChart, tableBoxes, completed-in, completed-chart, completed-boxes}
 use Rattle.sheet.specs.declared.Shape.{Shape}
 use Rattle.sheet.specs.declared.Ranges.{Ranges}
 use Rattle.sheet.specs.Layout.{countersOf, regionsOf, labelAt}
 use Rattle.sheet.specs.Decode as Decode
-use Rattle.sheet.specs.Decode.{decode, listed, rangeAt, boxAt}
+use Rattle.sheet.specs.Decode.{decode, rangeAt, boxAt}
 use Rattle.sheet.specs.Fits.{each-listed, range-within}
 use Rattle.sheet.specs.Three.{firsts, rangesMeant, configMeant}
-use Rattle.minimize.specs.Arrays.{rangeIn, rangesIn, regionIn, configIn, targetIn}
+use Rattle.minimize.specs.Arrays.{rangeIn, rangesIn, configIn, targetIn}
 use Rattle.minimize.specs.Meaning.{Ready, rowIn, covered-few}
 use Rattle.minimize.specs.State.{counters-few, actions-decoded}
 use Rattle.minimize.specs.Steps.{Table}

@@ -3,18 +3,17 @@ use mathlib.Core.Path.{_≡_, refl, sym, ap, subst, _∙_}
 use mathlib.Core.Logic.{_↔_}
 use mathlib.Core.Bool.{Bool, true, false, not}
 use mathlib.Core.List.{List}
-use Prim.Native.Nat.{ℕ, _+_, _*_, _≤_, _<_}
+use Prim.Native.Nat.{ℕ, _+_, _*_, _≤_}
 use native.Mathlib.Omega.{arith}
-use lib.Dec.{leb, ltb}
 use lib.ListN.{length, take, drop}
-use lib.Seq.{take-append-seam, take-at}
-use borrow.Author.Tests.{ltb-true, ltb-false, leb-true}
+use lib.Seq.{take-at}
+use borrow.Author.Tests.{ltb-false}
 use Rattle.integers.specs.LittleEndian.{Bytes}
 use Rattle.answers.specs.declared.Checked.{Checked}
 use Rattle.answers.specs.declared.Checked.the-variants.{Fine, Refused}
-use Rattle.answers.specs.Stages.{andThen, demand, passed, then-fine, demand-fine}
+use Rattle.answers.specs.Stages.{demand, passed, then-fine, demand-fine}
 use Rattle.answers.specs.Run.{overwrite, runChecks, ranBy, leftBy}
-use Rattle.model.specs.Sheet.{Sheet, WellFormed, sheetSystem, sheetReading}
+use Rattle.model.specs.Sheet.{Sheet, sheetReading}
 use Rattle.model.specs.Blocks.{blocks, tooMany, chartOf}
 use Rattle.model.specs.Chart.{AllBelow, recordAt}
 use Rattle.model.specs.ChartBytes.{chartOf-length}

@@ -1,5 +1,4 @@
 -- The worked examples of document 01, computed on the definitions: a row for each, one test over the table, one proof.
-use mathlib.Core.Path.{_≡_, refl}
 use mathlib.Core.Bool.{Bool, true, false, _&&_}
 use mathlib.Core.List.{List, [], _∷_}
 use mathlib.Core.Option.{Option, some, none}
@@ -15,14 +14,13 @@ use Rattle.integers.specs.Inverse.{inverse}
 use Rattle.integers.specs.LittleEndian.{joined, unsignedAt, signedOf, signedAt, split, bitsOf}
 use Rattle.systems.specs.Search.{run}
 use Rattle.systems.specs.Lists.{collect}
-use Rattle.systems.specs.System.{Reading, alone, stopped, before, continued, reading}
+use Rattle.systems.specs.System.{alone, stopped, before, continued, reading}
 use Rattle.systems.specs.Exploration.{place, known, added, visited, visitedAt, visitedNext, explore}
 use Rattle.answers.specs.declared.Checked.{Checked}
 use Rattle.answers.specs.declared.Checked.the-variants.{Fine, Refused}
 use Rattle.answers.specs.Stages.{andThen, demand}
-use Rattle.model.specs.declared.Rule.{Rule}
-use Rattle.model.specs.declared.Rule.the-variants.{Set, Carry}
-use Rattle.model.specs.Sheet.{Configuration, Box, Move, Barred, Open, Region, Sheet, within, inBox, placeIn, regionNumber, regionOf, applied, updated, landing, moved, step, sheetSystem, sheetReading}
+use Rattle.model.specs.declared.Rule.the-variants.{Carry}
+use Rattle.model.specs.Sheet.{Move, Barred, Open, Region, Sheet, within, inBox, placeIn, regionNumber, regionOf, applied, updated, landing, moved, step, sheetSystem, sheetReading}
 use Rattle.model.specs.Blocks.{emptied, cut, cuts, preimage, narrowed, classBox, volume, volumes, configurations, classOf, sameClass, blocks, targetByte, chartRecord, chartOf, rangeBytes, boxRecord, boxListOf}
 use Rattle.model.specs.Listing.{numbers, numbersIn, prefixed, valuesIn, members}
 use Rattle.sheet.specs.Layout.{moveSize, regionSize, startValue, regionPlace, labelAt, stateAt, lowPlace, highPlace, movePlace, rulePlace, factorOf, offsetOf}

@@ -1,12 +1,11 @@
 -- Division of whole numbers by a factor of either sign, rounded down and rounded up.
-use mathlib.Core.Path.{_≡_, refl}
 use mathlib.Core.Logic.{_↔_}
 use Prim.Native.Nat.{ℕ, zero, suc, _+_, _*_, _/_, _≤_, _<_}
 use native.Mathlib.Omega.{arith}
 use native.Mathlib.Nat.{le-div-iff-mul-le, div-lt-iff-lt-mul, div-le-self, zero-lt-suc}
 use lib.IntN.{ℤ, pos, negsuc, negℤ, _*ℤ_}
 use lib.Signed.{_≤ℤ_}
-use Rattle.integers.specs.Order.{up, dn, ints, le-in, le-out, up-neg, dn-neg, mul-up, mul-dn, mul-neg, neg-le, le-neg}
+use Rattle.integers.specs.Order.{up, dn, ints, up-neg, dn-neg, mul-up, mul-dn, mul-neg, neg-le, le-neg}
 
 -- n divided by m, not 0, rounded down
 unfoldable pub floorBy : ℤ → ℕ → ℤ

@@ -1,16 +1,16 @@
 -- The inverse of a carry rule: the old values x whose new value f * x + b lies in a wanted range (document 01: "rounded inward for either sign of f").
 use mathlib.Core.Path.{_≡_, refl}
 use mathlib.Core.Logic.{_↔_}
-use Prim.Native.Nat.{ℕ, zero, suc, _+_, _≤_, _<_}
+use Prim.Native.Nat.{ℕ, zero, suc, _<_}
 use native.Mathlib.Omega.{arith}
 use native.Mathlib.Nat.{zero-lt-suc}
 use lib.Dec.{T}
 use lib.IntN.{ℤ, pos, negsuc, _+ℤ_, _-ℤ_, _*ℤ_}
 use lib.Signed.{_≤ℤ_, ≤ℤ-refl}
 use Rattle.integers.specs.declared.Range.{Range}
-use Rattle.integers.specs.Order.{up, dn, ints, le-in, le-out, add-parts, sub-parts}
+use Rattle.integers.specs.Order.{le-in, le-out, add-parts, sub-parts}
 use Rattle.integers.specs.Range.{contains, contains-le}
-use Rattle.integers.specs.Division.{floor, ceiling, floor-pos, floor-neg, ceiling-pos, ceiling-neg, floor-size, ceiling-size}
+use Rattle.integers.specs.Division.{floor, ceiling, floor-pos, floor-neg, ceiling-pos, ceiling-neg}
 
 -- the new value of a carry rule with factor f and offset b at the old value x
 abbrev pub carried : ℤ → ℤ → ℤ → ℤ

@@ -1,16 +1,16 @@
 -- What signed machine numbers of 64 bits give back, and the laws by which code over ranges meets its definitions.
-use mathlib.Core.Path.{_≡_, refl, sym, ap, _∙_}
-use mathlib.Core.Bool.{Bool, true, false, cond, _&&_}
-use Prim.Native.Nat.{ℕ, zero, suc, _+_, _^_, _≤_, _<_}
+use mathlib.Core.Path.{_≡_, refl, sym}
+use mathlib.Core.Bool.{true, false}
+use Prim.Native.Nat.{_+_, _^_, _≤_, _<_}
 use native.Mathlib.Omega.{arith}
 use lib.Dec.{T}
 use lib.IntN.{ℤ, pos, negsuc, natAbs, _+ℤ_, _-ℤ_}
-use lib.Signed.{leZ, ltZ, nonNeg, mag, _≤ℤ_}
+use lib.Signed.{leZ, ltZ, nonNeg, mag}
 use mir.Syntax.{w64}
-use mir.Val.{SFits, Fits, toZ, ofZ}
+use mir.Val.{SFits, toZ, ofZ}
 use mir.ValLaws.{toZ-ofZ}
 use Rattle.integers.specs.declared.Range.{Range}
-use Rattle.integers.specs.Order.{up, dn, ints, le-in, fits-out, ltZ-false, ltZ-true, add-parts, sub-parts, lt-ltZ}
+use Rattle.integers.specs.Order.{up, dn, ints, fits-out, ltZ-false, add-parts, sub-parts}
 use Rattle.integers.specs.Range.{smaller, larger, contains, vacant, meet, size, size-none, T-true, RangeWithin}
 
 -- a number that fits is read back from its bits

@@ -4,15 +4,15 @@ use mathlib.Core.Bool.{Bool, true, false}
 use Prim.Native.Nat.{ℕ, zero, suc, _+_, _/_, _^_, _≤_, _<_}
 use native.Mathlib.Omega.{arith}
 use native.Mathlib.Nat.{div-le-self}
-use lib.IntN.{ℤ, pos, negsuc, natAbs, negℤ, _+ℤ_, _-ℤ_}
+use lib.IntN.{ℤ, pos, negsuc, natAbs, negℤ, _-ℤ_}
 use lib.Dec.{T}
-use lib.Signed.{leZ, ltZ, nonNeg, quotZ, _≤ℤ_, _<ℤ_}
+use lib.Signed.{leZ, ltZ, nonNeg, quotZ, _<ℤ_}
 use mir.Syntax.{w64}
 use mir.Val.{SFits, ofZ}
 use Rattle.integers.specs.declared.Range.{Range}
-use Rattle.integers.specs.Order.{up, dn, ints, le-in, eq-out, fits-small, sub-size, up-neg, dn-neg, sub-parts, neg-neg, lt-out, ltZ-true, ltZ-false, leZ-false}
-use Rattle.integers.specs.Range.{Within, RangeWithin, within-size, within-out}
-use Rattle.integers.specs.Division.{floor, floorBy, ceiling, floor-size, ceiling-size}
+use Rattle.integers.specs.Order.{up, dn, ints, eq-out, fits-small, sub-size, up-neg, dn-neg, sub-parts, lt-out, ltZ-true, ltZ-false, leZ-false}
+use Rattle.integers.specs.Range.{Within, within-size, within-out}
+use Rattle.integers.specs.Division.{floor, floorBy, ceiling, floor-size}
 use Rattle.integers.specs.Inverse.{inverse}
 
 false-true : {A : Type 0} → _≡_ {A = Bool} false true → A

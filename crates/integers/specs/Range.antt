@@ -9,7 +9,7 @@ use lib.IntN.{ℤ, pos, negsuc, negℤ, _+ℤ_, _-ℤ_}
 use lib.Signed.{leZ, ltZ, _≤ℤ_}
 use mir.Facts.{and-yes, yes-and}
 use Rattle.integers.specs.declared.Range.{Range}
-use Rattle.integers.specs.Order.{up, dn, ints, le-in, le-out, leZ-true, leZ-false, le-leZ, lt-leZ, ltZ-true, add-parts, sub-parts, up-neg, dn-neg}
+use Rattle.integers.specs.Order.{up, dn, ints, le-in, le-out, ltZ-true, add-parts, sub-parts, up-neg, dn-neg}
 
 -- the smaller of two
 unfoldable pub smaller : ℤ → ℤ → ℤ

@@ -2,7 +2,7 @@
 use mathlib.Core.Path.{_≡_, refl, sym, ap, subst, _∙_}
 use mathlib.Core.Bool.{Bool, true, false}
 use mathlib.Core.List.{List}
-use Prim.Native.Nat.{ℕ, zero, suc, _+_, _*_, _≤_, _<_}
+use Prim.Native.Nat.{ℕ, suc, _+_, _*_, _≤_, _<_}
 use native.Mathlib.Decide.{ℕ-discrete}
 use native.Mathlib.Numerals.{add-one}
 use native.Mathlib.Omega.{arith}
@@ -13,7 +13,7 @@ use lib.Seq.{getD-set-same, getD-set-other}
 use lib.IntN.{ℤ}
 use Rattle.systems.specs.Laws.{is-true, true-is, not-true}
 use Rattle.model.specs.Sheet as Model
-use Rattle.model.specs.Sheet.{Configuration, Box, Move, inBox, landing, step, regionNumber, Covered, RuleFits, RangeFits, Each}
+use Rattle.model.specs.Sheet.{Configuration, Box, Move, inBox, landing, regionNumber, Covered, RuleFits, RangeFits, Each}
 use Rattle.model.specs.Blocks.{cuts, emptied, preimage, tooMany}
 use Rattle.model.specs.Boxes.{inBox-parts}
 use Rattle.model.specs.Classes.{covered-in}

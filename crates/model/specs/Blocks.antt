@@ -1,13 +1,12 @@
 -- Equivalence classes as boxes, the blocks of a sheet in the chart's order, and the bytes of its chart and box list (document 01, "The chart, mark BCH, and
 -- its box list"). Definitions only.
-use mathlib.Core.Path.{_≡_}
-use mathlib.Core.Bool.{Bool, true, false, _&&_}
-use mathlib.Core.List.{List, [], _∷_, _++_, map}
+use mathlib.Core.Bool.{Bool, true, false}
+use mathlib.Core.List.{List, [], _∷_, _++_}
 use mathlib.Core.Option.{Option, some, none}
 use Prim.Native.Nat.{ℕ, zero, suc, _+_, _*_}
 use lib.Dec.{eqb, ltb}
 use lib.ListN.{length, getD, set}
-use lib.IntN.{ℤ, pos, sucℤ}
+use lib.IntN.{ℤ, pos}
 use Rattle.integers.specs.declared.Range.{Range}
 use Rattle.integers.specs.Range.{contains, meet, size}
 use Rattle.integers.specs.Inverse.{inverse}

@@ -1,6 +1,6 @@
 -- Rounds of refinement on a chart: what they tell after each round, when they settle, and sequences that tell blocks apart.
-use mathlib.Core.Path.{_≡_, refl, sym, ap, subst, _∙_}
-use mathlib.Core.Logic.{_↔_, _⊎_, inl, inr, ⊎-elim, Equivalence}
+use mathlib.Core.Path.{_≡_, refl, sym, subst, _∙_}
+use mathlib.Core.Logic.{_↔_, _⊎_, inl, inr, ⊎-elim}
 use mathlib.Core.Bool.{Bool, false}
 use mathlib.Core.List.{List, [], _∷_}
 use mathlib.Core.Option.{Option, some, none}
@@ -9,11 +9,11 @@ use native.Mathlib.Nat.{not-suc-le-zero}
 use native.Mathlib.Decide.{decLt, le-ind, ℕ-discrete}
 use native.Mathlib.Omega.{arith}
 use borrow.Author.Tests.{lt-ltb, le-ltb, eq-eqb, ne-eqb}
-use lib.Dec.{T, eqb, eqb→eq}
+use lib.Dec.{T, eqb}
 use lib.ListN.{length}
-use Rattle.systems.specs.Search.{all, least}
-use Rattle.systems.specs.System.{System, reading, continued, stopped, before, Alike}
-use Rattle.systems.specs.Laws.{true-is, both, all-true, below-suc, least-tells, eqb-tells}
+use Rattle.systems.specs.Search.{all}
+use Rattle.systems.specs.System.{reading, Alike}
+use Rattle.systems.specs.Laws.{both, all-true, below-suc, least-tells, eqb-tells}
 use Rattle.systems.specs.Alike.{reading-open, reading-barred, Both, both-barred, both-open, AlikeTo, alike-to-zero, alike-to-suc, alike-to-le, alike-depths, alike-to-equivalence, before-inj, before-stopped, alone-inj}
 use Rattle.systems.specs.Counting.{numbers, numbers-length, numbers-mem, Finer, classes, classes-finer}
 use Rattle.systems.specs.Moore.{Chain, changes, changed, changed-differs, changes-le, settled-from, Tested, depths-chain, alike-length}

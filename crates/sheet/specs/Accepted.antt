@@ -8,17 +8,16 @@ use Prim.Native.Nat.{ℕ, zero, suc, _+_, _≤_, _<_}
 use native.Mathlib.Omega.{arith}
 use lib.Dec.{T, lit<, eqb, leb, ltb, eqb→eq, eqb-refl, leb→le}
 use lib.ListN.{length, getD, drop, List·getD-eq-default}
-use lib.Seq.{getD-drop}
 use borrow.Author.Tests.{ltb-true, ltb-false}
-use Rattle.integers.specs.LittleEndian.{Bytes, unsignedAt, joined, joined-lt}
+use Rattle.integers.specs.LittleEndian.{Bytes, unsignedAt, joined-lt}
 use Rattle.systems.specs.Search.{any, run}
-use Rattle.systems.specs.Laws.{told, is-true, true-is, both, any-true}
-use Rattle.systems.specs.Lists.{collect, length-each, getD-each}
+use Rattle.systems.specs.Laws.{told, true-is, both, any-true}
+use Rattle.systems.specs.Lists.{length-each, getD-each}
 use Rattle.answers.specs.declared.Checked.{Checked}
 use Rattle.answers.specs.declared.Checked.the-variants.{Fine, Refused}
 use Rattle.answers.specs.Stages.{andThen, demand, each, then-fine, demand-fine, each-fine, each-all}
 use Rattle.model.specs.Sheet as Model
-use Rattle.model.specs.Sheet.{Configuration, Box, Move, Barred, Open, Region, Sheet, Each, RegionFits, MoveFits, RangeFits, Covered, WellFormed, inBox, step, moved, regionOf, regionNumber, nowhere}
+use Rattle.model.specs.Sheet.{Configuration, Box, Move, Barred, Region, RegionFits, Covered, WellFormed, inBox, step, moved, regionOf, regionNumber, nowhere}
 use Rattle.model.specs.Listing.{members}
 use Rattle.model.specs.Finite.{members-mem}
 use Rattle.model.specs.Classes.{covered-in, in-covered, number-is}
@@ -28,7 +27,6 @@ use Rattle.sheet.specs.Check.{from-to, checkHeader, checkCounts, checkLe
 use Rattle.sheet.specs.Shape.{Shaped}
 use Rattle.sheet.specs.Overlap.{overlap-out, regions-apart}
 use Rattle.sheet.specs.Fits.{each-listed, bytes-drop, moves-fit, range-fits}
-use Rattle.sheet.specs.Landing.{Passed}
 
 pub demanded : (t : Bool) (n p : ℕ) → demand t n p ≡ Fine → T t
 demanded t n p e = true-is t (demand-fine t n p e)

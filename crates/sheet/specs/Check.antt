@@ -3,21 +3,19 @@
 use mathlib.Core.Bool.{Bool, true, false, _&&_, not}
 use mathlib.Core.List.{List, [], _∷_}
 use mathlib.Core.Option.{Option, some, none}
-use Prim.Native.Nat.{ℕ, zero, suc, _+_}
+use Prim.Native.Nat.{ℕ, _+_}
 use lib.Dec.{eqb, leb, ltb}
 use lib.ListN.{length, getD, drop, take}
 use lib.IntN.{ℤ, pos, negℤ}
 use lib.Signed.{leZ}
-use Rattle.integers.specs.declared.Range.{Range}
 use Rattle.integers.specs.Range.{contains, meet, vacant}
 use Rattle.systems.specs.Search.{any, all}
 use Rattle.answers.specs.declared.Checked.{Checked}
-use Rattle.answers.specs.declared.Checked.the-variants.{Fine, Refused}
 use Rattle.answers.specs.Stages.{andThen, demand, each}
-use Rattle.model.specs.Sheet.{Configuration, Box, Move, Barred, Open, Sheet, placeIn, moved, inBox, regionNumber}
+use Rattle.model.specs.Sheet.{Configuration, moved, inBox}
 use Rattle.model.specs.Listing.{members}
 use Rattle.sheet.specs.Layout.{sheetMark, countersOf, actionsOf, regionsOf, regionPlace, labelAt, stateAt, highPlace, movePlace, movePart, rulePlace, kindOf, sourceOf, factorOf, offsetOf}
-use Rattle.sheet.specs.Decode.{rangeAt, boxAt, moveAt, startOf, decode}
+use Rattle.sheet.specs.Decode.{rangeAt, boxAt, moveAt, startOf}
 
 -- the bytes of two lists are the same
 unfoldable pub sameBytes : List ℕ → List ℕ → Bool

@@ -2,17 +2,17 @@
 use mathlib.Core.Path.{_≡_, refl, sym, ap, _∙_}
 use mathlib.Core.Bool.{Bool, true, false, _&&_}
 use mathlib.Core.List.{List, [], _∷_}
-use Prim.Native.Nat.{ℕ, zero, suc, _+_, _*_, _≤_, _<_}
+use Prim.Native.Nat.{ℕ, _+_, _*_, _≤_, _<_}
 use native.Mathlib.Nat.{mul-le-mul-left, mul-le-mul-right, le-trans}
 use native.Mathlib.Omega.{arith}
 use lib.Dec.{eqb, leb}
 use lib.ListN.{length, getD, take}
 use borrow.Author.Tests.{eq-eqb, ne-eqb, le-leb, lt-leb}
 use Rattle.answers.specs.declared.Checked.{Checked}
-use Rattle.answers.specs.declared.Checked.the-variants.{Fine, Refused}
-use Rattle.answers.specs.Stages.{andThen, demand, stop, go-on, demand-by, demand-failed}
+use Rattle.answers.specs.declared.Checked.the-variants.{Refused}
+use Rattle.answers.specs.Stages.{demand, demand-failed}
 use Rattle.sheet.specs.Layout.{sheetMark, countersOf, actionsOf, regionsOf, regionSize, regionPlace}
-use Rattle.sheet.specs.Check.{sameBytes, from-to, checkHeader, checkCounts, checkLength}
+use Rattle.sheet.specs.Check.{sameBytes, from-to, checkHeader, checkLength}
 use Rattle.sheet.specs.Shape.{regionSize-le}
 
 -- mark and version byte by byte

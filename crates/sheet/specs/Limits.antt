@@ -1,14 +1,13 @@
 -- Check 4 by the pieces that the code has functions for.
-use mathlib.Core.Path.{_≡_, refl, sym, ap, subst, _∙_}
+use mathlib.Core.Path.{_≡_, refl, sym, ap, _∙_}
 use mathlib.Core.Bool.{Bool, true, false, _&&_, not}
 use mathlib.Core.List.{List}
-use Prim.Native.Nat.{ℕ, zero, suc, _+_, _*_, _-_, _≤_, _<_}
+use Prim.Native.Nat.{ℕ, _+_, _*_, _-_}
 use native.Mathlib.Omega.{arith}
-use native.Mathlib.Numerals.{add-one}
 use lib.Dec.{eqb, ltb, leb}
 use lib.ListN.{length, getD, take, drop}
 use borrow.Author.Tests.{eq-eqb, ne-eqb}
-use lib.IntN.{ℤ, pos, negℤ, _-ℤ_}
+use lib.IntN.{ℤ, pos, _-ℤ_}
 use lib.Signed.{leZ}
 use Rattle.integers.specs.declared.Range.{Range}
 use Rattle.integers.specs.Range.{contains}
@@ -16,12 +15,12 @@ use Rattle.integers.specs.Quotient.{zero-minus}
 use Rattle.integers.specs.LittleEndian.{signedAt}
 use Rattle.systems.specs.Laws.{run-ext}
 use Rattle.answers.specs.declared.Checked.{Checked}
-use Rattle.answers.specs.declared.Checked.the-variants.{Fine, Refused}
-use Rattle.answers.specs.Stages.{andThen, demand, each, stop, go-on, demand-by}
+use Rattle.answers.specs.declared.Checked.the-variants.{Fine}
+use Rattle.answers.specs.Stages.{andThen, demand, each}
 use Rattle.sheet.specs.declared.Shape.{Shape}
-use Rattle.sheet.specs.Layout.{countersOf, actionsOf, regionsOf, kindOf, sourceOf, factorOf, offsetOf, rulePlace, regionPlace, lowPlace, highPlace, movePlace, movePart, moveSize}
+use Rattle.sheet.specs.Layout.{countersOf, actionsOf, kindOf, sourceOf, factorOf, offsetOf, rulePlace, regionPlace, lowPlace, highPlace, movePlace, movePart}
 use Rattle.sheet.specs.Decode.{rangeAt}
-use Rattle.sheet.specs.Check.{near, checkRule, checkZeroRule, checkMove, checkFields}
+use Rattle.sheet.specs.Check.{near, checkRule, checkZeroRule, checkMove}
 use Rattle.sheet.specs.Three.{Read}
 use Rattle.sheet.specs.Fields.{rest}
 

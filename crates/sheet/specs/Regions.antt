@@ -1,11 +1,10 @@
 -- How the code's searches meet the checks 5, 6 and 7.
-use mathlib.Core.Path.{_≡_, refl, sym, ap, subst, _∙_}
-use mathlib.Core.Bool.{Bool, true, false, _&&_, not}
+use mathlib.Core.Path.{_≡_, refl, sym, ap, _∙_}
+use mathlib.Core.Bool.{Bool, true, false, not}
 use mathlib.Core.List.{List}
-use Prim.Native.Nat.{ℕ, zero, suc, _+_, _≤_, _<_}
+use Prim.Native.Nat.{ℕ, _≤_, _<_}
 use native.Mathlib.Omega.{arith}
 use lib.Dec.{T, eqb, ltb, ltb→lt, lt→ltb}
-use lib.ListN.{length, getD}
 use borrow.Author.Tests.{eq-eqb, ne-eqb}
 use Rattle.integers.specs.declared.Range.{Range}
 use Rattle.integers.specs.Range.{vacant, meet}
@@ -13,12 +12,12 @@ use Rattle.systems.specs.Search.{any, all}
 use Rattle.systems.specs.Laws.{is-true, true-is, is-false, not-true, same-test, any-true, all-true}
 use Rattle.answers.specs.declared.Checked.{Checked}
 use Rattle.answers.specs.Stages.{demand}
-use Rattle.model.specs.Sheet.{Configuration, regionNumber, Covered}
+use Rattle.model.specs.Sheet.{regionNumber}
 use Rattle.sheet.specs.declared.Shape.{Shape}
 use Rattle.sheet.specs.declared.Config.{Config}
-use Rattle.sheet.specs.Layout.{countersOf, regionsOf, regionPlace, labelAt, stateAt}
+use Rattle.sheet.specs.Layout.{countersOf, regionsOf, labelAt, stateAt}
 use Rattle.sheet.specs.Decode.{rangeAt, startOf, decode}
-use Rattle.sheet.specs.Check.{overlap, checkLabel, checkOverlap, covered, checkStart}
+use Rattle.sheet.specs.Check.{overlap, covered, checkStart}
 use Rattle.sheet.specs.Three.{Read, configMeant, startThree, start-meant}
 use Rattle.sheet.specs.Accepted.{covered-is, regions-count}
 

@@ -1,24 +1,23 @@
 -- Configurations and boxes of three counters, as the code computes with them, against the model's lists.
-use mathlib.Core.Path.{_≡_, refl, sym, ap, ap₂, subst, _∙_}
-use mathlib.Core.Bool.{Bool, true, false, _&&_, cond}
+use mathlib.Core.Path.{_≡_, refl, sym, ap, subst, _∙_}
+use mathlib.Core.Bool.{Bool, true, false, _&&_}
 use mathlib.Core.List.{List, [], _∷_}
-use Prim.Native.Nat.{ℕ, zero, suc, _+_, _*_, _≤_, _<_}
+use Prim.Native.Nat.{ℕ, zero, suc, _+_, _≤_, _<_}
 use native.Mathlib.Nat.{not-suc-le-zero, le-of-suc-le-suc, zero-lt-suc, mul-le-mul-left, mul-le-mul-right}
 use native.Mathlib.Omega.{arith}
-use lib.Dec.{T, eqb, lit≤}
+use lib.Dec.{lit≤}
 use lib.ListN.{length, getD, take}
 use borrow.Author.Tests.{eq-eqb, ne-eqb}
 use lib.IntN.{ℤ, pos, _*ℤ_}
 use mir.Syntax.{w64}
 use mir.Val.{SFits}
 use Rattle.integers.specs.Order.{up, dn, mul-size, add-size, fits-small}
-use Rattle.integers.specs.declared.Range.{Range}
 use Rattle.integers.specs.Range.{contains, Within, within-size, within-out, within-zero, within-wider}
 use Rattle.integers.specs.Inverse.{carried}
-use Rattle.systems.specs.Lists.{collect, length-each, getD-each}
+use Rattle.systems.specs.Lists.{length-each, getD-each}
 use Rattle.model.specs.declared.Rule.{Rule}
 use Rattle.model.specs.declared.Rule.the-variants.{Set, Carry}
-use Rattle.model.specs.Sheet.{Configuration, Box, Region, Sheet, nowhere, placeIn, regionNumber, within, inBox, applied, updated, landing, RuleFits, set-fits, carry-fits, Each, each-none, each-more}
+use Rattle.model.specs.Sheet.{Configuration, Box, Region, nowhere, placeIn, regionNumber, within, inBox, applied, updated, landing, RuleFits, set-fits, carry-fits, Each, each-none, each-more}
 use Rattle.sheet.specs.declared.Shape.{Shape}
 use Rattle.sheet.specs.declared.Ranges.{Ranges}
 use Rattle.sheet.specs.declared.RegionBox.{RegionBox}
@@ -26,8 +25,8 @@ use Rattle.sheet.specs.declared.Values.{Values}
 use Rattle.sheet.specs.declared.Config.{Config}
 use Rattle.sheet.specs.declared.Rules.{Rules}
 use Rattle.sheet.specs.declared.RegionMove.{RegionMove}
-use Rattle.sheet.specs.Layout.{countersOf, regionsOf}
-use Rattle.sheet.specs.Decode.{listed, boxAt, regionAt, decode}
+use Rattle.sheet.specs.Layout.{regionsOf}
+use Rattle.sheet.specs.Decode.{boxAt, regionAt, decode}
 use Rattle.sheet.specs.Three.{Read, boxThree, box-meant, firsts, rangesMeant, valuesMeant, rulesMeant, boxMeant, configMeant}
 
 -- a test of the first counter decides where it fails, and where there is no other

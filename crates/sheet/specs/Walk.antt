@@ -1,8 +1,8 @@
 -- The walk of an action sequence on an accepted sheet: the code's configuration, its region, and the labels written.
-use mathlib.Core.Path.{_≡_, refl, sym, ap, subst, _∙_}
-use mathlib.Core.Bool.{Bool, true, false, _&&_}
-use mathlib.Core.List.{List, [], _∷_}
-use mathlib.Core.Option.{Option, some, none}
+use mathlib.Core.Path.{_≡_, sym, ap, subst, _∙_}
+use mathlib.Core.Bool.{true, _&&_}
+use mathlib.Core.List.{List}
+use mathlib.Core.Option.{some, none}
 use Prim.Native.Nat.{ℕ, zero, suc, _+_, _≤_, _<_}
 use native.Mathlib.Omega.{arith}
 use lib.Dec.{T}
@@ -11,21 +11,18 @@ use lib.IntN.{ℤ, pos}
 use Rattle.integers.specs.Order.{ints}
 use Rattle.integers.specs.LittleEndian.{Bytes}
 use Rattle.integers.specs.declared.Range.{Range}
-use Rattle.integers.specs.Range.{contains, contains-le, Within, within-size, within-out, within-zero, RangeWithin}
+use Rattle.integers.specs.Range.{contains, contains-le, Within, within-zero, RangeWithin}
 use Rattle.systems.specs.Laws.{both}
-use Rattle.answers.specs.declared.Checked.{Checked}
-use Rattle.answers.specs.declared.Checked.the-variants.{Fine, Refused}
+use Rattle.answers.specs.declared.Checked.the-variants.{Fine}
 use Rattle.answers.specs.declared.Ending.the-variants.{Whole, Barred as BarredAt}
-use Rattle.answers.specs.declared.Ran.{Ran}
 use Rattle.answers.specs.declared.Ran.the-variants.{Done}
-use Rattle.answers.specs.Stages.{andThen, then-fine}
+use Rattle.answers.specs.Stages.{then-fine}
 use Rattle.answers.specs.Run.{runChecks, ranBy, leftBy}
 use Rattle.answers.specs.Sequence.{Runs, sequence-passed}
 use Rattle.answers.specs.Walk as Any
 use Rattle.model.specs.declared.Rule.{Rule}
-use Rattle.model.specs.declared.Rule.the-variants.{Set}
 use Rattle.model.specs.Sheet as Model
-use Rattle.model.specs.Sheet.{Configuration, Box, Region, Covered, WellFormed, within, inBox, applied, landing, moved, step, regionOf, regionNumber, sheetSystem, sheetReading, RuleFits, Each, MoveFits, open-fits}
+use Rattle.model.specs.Sheet.{Configuration, Box, Region, Covered, WellFormed, within, inBox, applied, moved, step, regionOf, regionNumber, sheetSystem, sheetReading, RuleFits, Each, MoveFits, open-fits}
 use Rattle.model.specs.Boxes.{inBox-parts}
 use Rattle.model.specs.Classes.{covered-in}
 use Rattle.sheet.specs.declared.Shape.{Shape}
@@ -36,17 +33,16 @@ use Rattle.sheet.specs.declared.Move.{Move}
 use Rattle.sheet.specs.declared.Move.the-variants.{Barred, Open}
 use Rattle.sheet.specs.declared.RegionMove.{RegionMove}
 use Rattle.sheet.specs.Layout.{countersOf, actionsOf, regionsOf, startValue, labelAt, movePart}
-use Rattle.sheet.specs.Decode.{listed, boxAt, ruleAt, moveAt, regionAt, startOf, decode}
+use Rattle.sheet.specs.Decode.{ruleAt, moveAt, regionAt, startOf, decode}
 use Rattle.sheet.specs.Check.{sheetCheck}
-use Rattle.sheet.specs.Shape.{Shaped}
-use Rattle.sheet.specs.Three.{Read, firsts, rangesMeant, valuesMeant, rulesMeant, boxMeant, configMeant, moveMeant, moveOfKind, padded, padded-out, zeroRule, boxThree, startPadded, startThree, moveThree, box-meant, start-meant, move-meant}
+use Rattle.sheet.specs.Three.{Read, firsts, rangesMeant, valuesMeant, rulesMeant, boxMeant, configMeant, moveMeant, moveOfKind, padded, padded-out, zeroRule, boxThree, startThree, moveThree, box-meant, start-meant, move-meant}
 use Rattle.sheet.specs.Space.{RulesSafe, ValuesWithin, allThree, landThree, land-meant, fits-safe}
-use Rattle.sheet.specs.Bounded.{RangesWithin, RulesFit, box-within}
+use Rattle.sheet.specs.Bounded.{RangesWithin, box-within}
 use Rattle.sheet.specs.Landing.{Passed}
 use Rattle.sheet.specs.Shares.{countable}
 use Rattle.sheet.specs.Fits.{moves-fit}
 use Rattle.sheet.specs.Accepted.{Stages, stages, regions-count, region-is, box-is, step-is, accepted}
-use Rattle.sheet.specs.RunSheet.{sheetRunCheck, sheetRan, sheetLeft}
+use Rattle.sheet.specs.RunSheet.{sheetRunCheck}
 
 -- a value in a range lies within its bounds
 contained-within : {n : ℕ} (r : Range) (z : ℤ) → RangeWithin n r → T (contains r z) → Within n z

@@ -1,18 +1,17 @@
 -- The whole check, as the code goes through its stages.
-use mathlib.Core.Path.{_≡_, refl, sym, ap, _∙_}
-use mathlib.Core.Bool.{Bool, true, false, _&&_}
+use mathlib.Core.Path.{_≡_, ap}
 use mathlib.Core.List.{List}
 use Prim.Native.Nat.{ℕ, _≤_}
 use lib.Dec.{leb}
 use lib.ListN.{length, take}
 use borrow.Author.Tests.{leb-true}
-use Rattle.systems.specs.Laws.{is-true, true-is, both}
+use Rattle.systems.specs.Laws.{is-true, both}
 use Rattle.answers.specs.declared.Checked.{Checked}
-use Rattle.answers.specs.declared.Checked.the-variants.{Fine, Refused}
-use Rattle.answers.specs.Stages.{andThen, demand, each, then-fine, demand-fine}
+use Rattle.answers.specs.declared.Checked.the-variants.{Fine}
+use Rattle.answers.specs.Stages.{andThen, demand, each, then-fine}
 use Rattle.sheet.specs.declared.Shape.{Shape}
 use Rattle.sheet.specs.Layout.{sheetMark, countersOf, actionsOf, regionsOf}
-use Rattle.sheet.specs.Check.{sameBytes, from-to, checkHeader, checkCounts, checkLength, checkFields, checkLabel, checkOverlap, checkStart, checkLanding, sheetCheck}
+use Rattle.sheet.specs.Check.{sameBytes, from-to, checkHeader, checkCounts, checkFields, checkLabel, checkOverlap, checkStart, checkLanding}
 use Rattle.sheet.specs.Shape.{Shaped}
 use Rattle.sheet.specs.Three.{Read, shapeOf}
 use Rattle.sheet.specs.Accepted.{between, demanded}

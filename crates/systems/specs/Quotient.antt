@@ -13,7 +13,7 @@ use lib.ListN.{length, getD}
 use Rattle.systems.specs.System.{System, Alike, Reached, at-start, by-step}
 use Rattle.systems.specs.Exploration.{place, explore}
 use Rattle.systems.specs.Alike.{Both, both-barred, both-open, Bisimulation, bisimilar-alike, alike-label, alike-next}
-use Rattle.systems.specs.Explored.{Explorable, Representatives, explore-representatives, step-known, step-alike, place-alike, origin, Named}
+use Rattle.systems.specs.Explored.{Explorable, Representatives, explore-representatives, step-known, step-alike, place-alike, origin}
 
 -- The system on the indices of a list: i has the label of member i, and an action leads to the place of where it leads from member i.
 -- Past the end of the list all actions are barred.
