@@ -9,13 +9,14 @@ use lib.ListN.{length, take, drop}
 use lib.Seq.{take-at}
 use borrow.Author.Tests.{ltb-false}
 use Rattle.integers.specs.LittleEndian.{Bytes}
+use Rattle.systems.specs.System.{Below}
 use Rattle.answers.specs.declared.Checked.{Checked}
 use Rattle.answers.specs.declared.Checked.the-variants.{Fine, Refused}
 use Rattle.answers.specs.Stages.{demand, passed, then-fine, demand-fine}
 use Rattle.answers.specs.Run.{overwrite, runChecks, ranBy, leftBy}
 use Rattle.model.specs.Sheet.{Sheet, sheetReading}
 use Rattle.model.specs.Blocks.{blocks, tooMany, chartOf}
-use Rattle.model.specs.Chart.{AllBelow, recordAt}
+use Rattle.model.specs.Chart.{recordAt}
 use Rattle.model.specs.ChartBytes.{chartOf-length}
 use Rattle.model.specs.Theorems.{MinimalReachable, minimal-reachable, ChartRight, chart-right, charts-tell}
 use Rattle.sheet.specs.Layout.{actionsOf}
@@ -36,7 +37,7 @@ abbrev pub ChartsEqual : ℕ → ℕ → List ℕ → ℕ → ℕ → List ℕ �
 ChartsEqual n₁ a₁ chart₁ n₂ a₂ chart₂ = take (7 + n₁ * (2 + a₁)) chart₁ ≡ take (7 + n₂ * (2 + a₂)) chart₂
 
 abbrev pub SameBehaviour : List ℕ → List ℕ → Type 0
-SameBehaviour s t = (actionsOf s ≡ actionsOf t) × ((w : List ℕ) → AllBelow (actionsOf s) w → sheetReading (decode s) w ≡ sheetReading (decode t) w)
+SameBehaviour s t = (actionsOf s ≡ actionsOf t) × ((w : List ℕ) → Below (actionsOf s) w → sheetReading (decode s) w ≡ sheetReading (decode t) w)
 
 pub record Demand3 (s t : List ℕ) (m₁ m₂ : Made) (chart₁ chart₂ : List ℕ) : Type 0 where
   pub equal-charts : (n₁ n₂ : ℕ) → m₁ ≡ Done n₁ → m₂ ≡ Done n₂

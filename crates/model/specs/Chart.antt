@@ -2,14 +2,14 @@
 use mathlib.Core.Path.{_≡_}
 use mathlib.Core.Logic.{_↔_, _⊎_}
 use mathlib.Core.Bool.{Bool, true, false, not, _&&_}
-use mathlib.Core.List.{List, [], _∷_}
+use mathlib.Core.List.{List}
 use mathlib.Core.Option.{Option, some, none}
 use Prim.Native.Nat.{ℕ, zero, suc, _+_, _*_, _≤_, _<_}
 use lib.Dec.{eqb, ltb}
 use lib.ListN.{length, getD, take}
 use Rattle.integers.specs.LittleEndian.{unsignedAt}
 use Rattle.systems.specs.Search.{all, least}
-use Rattle.systems.specs.System.{System, Reading, reading}
+use Rattle.systems.specs.System.{System, Reading, reading, Below}
 use Rattle.model.specs.Blocks.{chartMark}
 
 -- number of actions, number of blocks
@@ -60,15 +60,10 @@ unfoldable pub nextUnnamed : List ℕ → ℕ → ℕ
 nextUnnamed c zero = 1
 nextUnnamed c (suc n) = nextIn c n (nextUnnamed c n) (actionsOf c)
 
--- each element of a sequence is below n
-pub data AllBelow (n : ℕ) : List ℕ → Type 0 where
-  below-none : AllBelow n []
-  below-more : {a : ℕ} {w : List ℕ} → a < n → AllBelow n w → AllBelow n (a ∷ w)
-
 -- A sequence of the chart's actions that reads differently from two blocks.
 pub record ToldApart (c : List ℕ) (i j : ℕ) : Type 0 where
   pub sequence : List ℕ
-  pub of-actions : AllBelow (actionsOf c) sequence
+  pub of-actions : Below (actionsOf c) sequence
   pub differs : reading (chartSystem c) sequence i ≡ reading (chartSystem c) sequence j → ⊥
 
 -- The chart rules.

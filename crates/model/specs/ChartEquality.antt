@@ -7,20 +7,16 @@ use Prim.Native.Nat.{ℕ, _≤_, _<_}
 use native.Mathlib.Omega.{arith}
 use lib.ListN.{length, getD}
 use Rattle.systems.specs.Exploration.{explore, place}
-use Rattle.systems.specs.System.{Alike}
-use Rattle.systems.specs.Alike.{Below, below-nil, below-cons, alike-below, alike-label}
+use Rattle.systems.specs.System.{Alike, Below}
+use Rattle.systems.specs.Alike.{alike-below, alike-label}
 use Rattle.systems.specs.Explored.{Explorable}
 use Rattle.systems.specs.LockStep.{All2, all2-length, all2-at, alike-explore, alike-explore-place}
 use Rattle.model.specs.Sheet.{Configuration, Sheet, step, sheetSystem, sheetReading, Covered, WellFormed}
 use Rattle.model.specs.Blocks.{sameClass, blocks, blockAt, targetByte, chartOf}
-use Rattle.model.specs.Chart.{chartReading, AllBelow, below-none, below-more}
+use Rattle.model.specs.Chart.{chartReading}
 use Rattle.model.specs.ClassTheorem.{step-bounded, sheet-explorable}
 use Rattle.model.specs.ChartBytes.{SameEntries, same-entries}
 use Rattle.model.specs.ChartRules.{chart-reading}
-
-all-below : {n : ℕ} {w : List ℕ} → Below n w → AllBelow n w
-all-below below-nil = below-none
-all-below (below-cons h b) = below-more h (all-below b)
 
 -- a target's byte from its place
 byteOf : Option ℕ → ℕ
@@ -74,16 +70,15 @@ module _ (s t : Sheet) (W : WellFormed s) (V# : WellFormed t) (e : s .actions �
       }
 
   -- sequences of the sheets' actions tell all
-  starts-alike : ((w : List ℕ) → AllBelow (s .actions) w → sheetReading s w ≡ sheetReading t w) → Alike (sheetSystem s) (sheetSystem t) (s .start) (t .start)
+  starts-alike : ((w : List ℕ) → Below (s .actions) w → sheetReading s w ≡ sheetReading t w) → Alike (sheetSystem s) (sheetSystem t) (s .start) (t .start)
   unfolding sheetReading sheetSystem
   starts-alike f =
-      alike-below (sheetSystem s) (sheetSystem t) (s .actions) (step-bounded s W) (λ a h. step-bounded t V# a (omega arith)) (s .start) (t .start) .0
-      (λ w b. f w (all-below b))
+      alike-below (sheetSystem s) (sheetSystem t) (s .actions) (step-bounded s W) (λ a h. step-bounded t V# a (omega arith)) (s .start) (t .start) .0 f
 
 -- For two well-formed sheets with at most 255 blocks each: the charts are the same bytes exactly where the sheets have as many
 -- actions and every sequence of actions reads the same from the two starts.
 pub chart-equality : (s t : Sheet) → WellFormed s → WellFormed t → length (blocks s) ≤ 255 → length (blocks t) ≤ 255
-    → (chartOf s ≡ chartOf t) ↔ ((s .actions ≡ t .actions) × ((w : List ℕ) → AllBelow (s .actions) w → sheetReading s w ≡ sheetReading t w))
+    → (chartOf s ≡ chartOf t) ↔ ((s .actions ≡ t .actions) × ((w : List ℕ) → Below (s .actions) w → sheetReading s w ≡ sheetReading t w))
 chart-equality s t W V# few few′ = (
   λ p. (
     same-entries s t W V# few few′ .0 p .actions,

@@ -12,12 +12,12 @@ use borrow.Author.Tests.{lt-ltb, le-ltb, eq-eqb, ne-eqb}
 use lib.Dec.{T, eqb}
 use lib.ListN.{length}
 use Rattle.systems.specs.Search.{all}
-use Rattle.systems.specs.System.{reading, Alike}
+use Rattle.systems.specs.System.{reading, Alike, Below, below-nil, below-cons}
 use Rattle.systems.specs.Laws.{both, all-true, below-suc, least-tells, eqb-tells}
 use Rattle.systems.specs.Alike.{reading-open, reading-barred, Both, both-barred, both-open, AlikeTo, alike-to-zero, alike-to-suc, alike-to-le, alike-depths, alike-to-equivalence, before-inj, before-stopped, alone-inj}
 use Rattle.systems.specs.Counting.{numbers, numbers-length, numbers-mem, Finer, classes, classes-finer}
 use Rattle.systems.specs.Moore.{Chain, changes, changed, changed-differs, changes-le, settled-from, Tested, depths-chain, alike-length}
-use Rattle.model.specs.Chart.{actionsOf, blocksOf, labelOf, targetOf, named, chartStep, chartSystem, AllBelow, below-none, below-more, ToldApart, sameTarget, refines, roundClass}
+use Rattle.model.specs.Chart.{actionsOf, blocksOf, labelOf, targetOf, named, chartStep, chartSystem, ToldApart, sameTarget, refines, roundClass}
 
 -- each target is a block's number or 255
 abbrev pub TargetsRight : List ℕ → Type 0
@@ -108,7 +108,7 @@ partingRounds c m = changes (numbers (blocksOf c)) (sameRound c) m
 -- a sequence of at most k of the chart's actions that reads differently from two blocks
 pub record ApartIn (c : List ℕ) (k i j : ℕ) : Type 0 where
   pub sequence : List ℕ
-  pub of-actions : AllBelow (actionsOf c) sequence
+  pub of-actions : Below (actionsOf c) sequence
   pub short : length sequence ≤ k
   pub differs : reading (chartSystem c) sequence i ≡ reading (chartSystem c) sequence j → ⊥
 
@@ -289,7 +289,7 @@ module _ (c : List ℕ) (few : blocksOf c ≤ 255) (right : TargetsRight c) wher
           inr
           (record {
             sequence = a ∷ [];
-            of-actions = below-more h below-none;
+            of-actions = below-cons h below-nil;
             short = omega arith;
             differs =
                 λ e.
@@ -300,7 +300,7 @@ module _ (c : List ℕ) (few : blocksOf c ≤ 255) (right : TargetsRight c) wher
           inr
           (record {
             sequence = a ∷ [];
-            of-actions = below-more h below-none;
+            of-actions = below-cons h below-nil;
             short = omega arith;
             differs =
                 λ e.
@@ -314,7 +314,7 @@ module _ (c : List ℕ) (few : blocksOf c ≤ 255) (right : TargetsRight c) wher
           inr
           (record {
             sequence = a ∷ d .sequence;
-            of-actions = below-more h (d .of-actions);
+            of-actions = below-cons h (d .of-actions);
             short = omega (arith, d .short);
             differs =
                 λ e.
@@ -328,7 +328,7 @@ module _ (c : List ℕ) (few : blocksOf c ≤ 255) (right : TargetsRight c) wher
   labels-apart : (k i j : ℕ) → (labelOf c i ≡ labelOf c j → ⊥) → ApartIn c k i j
   unfolding chartSystem reading
   labels-apart k i j n =
-      record { sequence = []; of-actions = below-none; short = omega arith; differs = λ e. n (alone-inj (labelOf c i) (labelOf c j) e) }
+      record { sequence = []; of-actions = below-nil; short = omega arith; differs = λ e. n (alone-inj (labelOf c i) (labelOf c j) e) }
 
   -- Blocks agree to depth k, or a sequence of at most k actions tells them apart.
   pub apart-or : (k i j : ℕ) → i < blocksOf c → j < blocksOf c → AlikeTo k (chartSystem c) (chartSystem c) i j ⊎ ApartIn c k i j

@@ -8,12 +8,12 @@ use Prim.Native.Nat.{ℕ, _≤_, _<_}
 use lib.Dec.{T}
 use lib.ListN.{length}
 use borrow.Author.Tests.{ltb-true, lt-ltb}
-use Rattle.systems.specs.System.{Reached, at-start, by-step, reading, Alike}
+use Rattle.systems.specs.System.{Reached, at-start, by-step, reading, Alike, Below}
 use Rattle.systems.specs.Alike.{Bisimulation, alike-bisimulation, bisimilar-alike}
 use Rattle.systems.specs.Explored.{Many, Representatives, explored, explored-one, refused, explore-representatives}
 use Rattle.model.specs.Sheet.{Configuration, Sheet, inBox, sheetSystem, sheetReading, Covered, WellFormed}
 use Rattle.model.specs.Blocks.{classOf, sameClass, blocks, blockAt, tooMany, chartOf}
-use Rattle.model.specs.Chart.{ChartRules, chartReading, AllBelow}
+use Rattle.model.specs.Chart.{ChartRules, chartReading}
 use Rattle.model.specs.ClassTheorem.{class-members, sheet-explorable}
 use Rattle.model.specs.ChartRules as Rules
 use Rattle.model.specs.ChartEquality.{chart-equality}
@@ -57,7 +57,7 @@ pub record ChartRight (s : Sheet) : Type 0 where
 
 -- Charts are equal just when both sheets have as many actions and all sequences of these actions read the same (demand 3).
 abbrev pub ChartsTell : Sheet → Sheet → Type 0
-ChartsTell s t = (chartOf s ≡ chartOf t) ↔ ((s .actions ≡ t .actions) × ((w : List ℕ) → AllBelow (s .actions) w → sheetReading s w ≡ sheetReading t w))
+ChartsTell s t = (chartOf s ≡ chartOf t) ↔ ((s .actions ≡ t .actions) × ((w : List ℕ) → Below (s .actions) w → sheetReading s w ≡ sheetReading t w))
 
 module _ (s : Sheet) (W : WellFormed s) where
   pub classes-exact : ClassesExact s

@@ -8,7 +8,7 @@ use mathlib.Core.Logic.{_↔_, Equivalence}
 use mathlib.Core.List.{List, [], _∷_}
 use mathlib.Core.Option.{Option, some, none, Option·map}
 use lib.ListN.{length}
-use Rattle.systems.specs.System.{System, Reading, alone, stopped, before, continued, reading, Alike}
+use Rattle.systems.specs.System.{System, Reading, alone, stopped, before, continued, reading, Alike, Below, below-nil, below-cons}
 
 -- what the first action of a sequence does to a reading
 pub reading-open : {X : Type 0} (s : System X) (a : ℕ) (w : List ℕ) (x y : X) → s .step a x ≡ some y → reading s (a ∷ w) x ≡ before (s .label x) (reading s w y)
@@ -240,11 +240,6 @@ alike-equivalence s = record { refl = alike-refl s; symm = alike-sym s s; trans 
 -- and to a depth
 pub alike-to-equivalence : {X : Type 0} (k : ℕ) (s : System X) → Equivalence (AlikeTo k s s)
 alike-to-equivalence k s = record { refl = λ x w l. refl; symm = λ x y h w l. sym (h w l); trans = λ x y z h g w l. h w l ∙ g w l }
-
--- every action of the sequence is below n
-pub data Below (n : ℕ) : List ℕ → Type 0 where
-  below-nil : Below n []
-  below-cons : {a : ℕ} {w : List ℕ} → a < n → Below n w → Below n (a ∷ w)
 
 -- Where both systems bar every action from n on, the sequences of actions below n tell all.
 pub alike-below : {X Y : Type 0} (s : System X) (t : System Y) (n : ℕ)

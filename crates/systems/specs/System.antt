@@ -1,5 +1,5 @@
 -- Deterministic partial transition systems and what is read on them.
-use Prim.Native.Nat.{ℕ, suc}
+use Prim.Native.Nat.{ℕ, suc, _<_}
 use mathlib.Core.Path.{_≡_}
 use mathlib.Core.List.{List, [], _∷_}
 use mathlib.Core.Option.{Option, some, none, Option·map}
@@ -40,6 +40,11 @@ reading s (a ∷ w) x = continued (s .label x) (s .step a x) (reading s w)
 -- Two configurations, also of different systems, are equivalent (document 01) when all sequences read the same from both.
 abbrev pub Alike : {X Y : Type 0} → System X → System Y → X → Y → Type 0
 Alike s t x y = (w : List ℕ) → reading s w x ≡ reading t w y
+
+-- every action of the sequence is below n
+pub data Below (n : ℕ) : List ℕ → Type 0 where
+  below-nil : Below n []
+  below-cons : {a : ℕ} {w : List ℕ} → a < n → Below n w → Below n (a ∷ w)
 
 -- Reached (document 01): the start, and whatever an open action gives from a reached configuration.
 pub data Reached {X : Type 0} (s : System X) (start : X) : X → Type 0 where
