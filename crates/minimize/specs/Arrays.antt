@@ -239,6 +239,7 @@ module _ (h : List ℕ) (i region state : ℕ) where
 pub record LastRaised (f : ℕ → ℕ) (n at k : ℕ) : Type 0 where
   pub few : k ≤ n
   pub found : k < n → 0 < f k
+  pub above : k < n → (i : ℕ) → k < i → i < at → f i ≡ 0
   pub none : k ≡ n → (i : ℕ) → i < at → f i ≡ 0
 
 -- what the readers and writers of rows give

@@ -12,7 +12,7 @@ use mir.ValLaws.{toZ-ofZ}
 use Rattle.integers.specs.declared.Range.{Range}
 use Rattle.refinement.specs.Flags.{flagged}
 use Rattle.refinement.specs.Potential.{falling-refl, falling-less}
-use Rattle.refinement.specs.Loop.{rowsPotential}
+use Rattle.refinement.specs.Loop.{Advance, rowsPotential}
 use Rattle.sheet.specs.declared.Shape.{Shape}
 use Rattle.sheet.specs.declared.Ranges.{Ranges}
 use Rattle.sheet.specs.declared.Rules.{Rules}
@@ -21,7 +21,8 @@ use Rattle.sheet.specs.Space.{landThree}
 use Rattle.sheet.specs.Cuts.{cutsThree}
 use Rattle.minimize.specs.Arrays.{configIn, rangesIn, targetIn, flagIn, putRanges}
 use Rattle.minimize.specs.Meaning.{Ready, rowIn, holdsIn}
-use Rattle.minimize.specs.State.{State, Fell, OpenAt, state-same, state-cut}
+use Rattle.sheet.specs.Decode.{decode}
+use Rattle.minimize.specs.State.{State, Fell, OpenAt, state-same, state-cut, advance-same, advance-changed}
 
 -- an answer whether two things are the same
 pub record Same {A : Type 0} (x y : A) (r : Bool) : Type 0 where
@@ -111,6 +112,15 @@ module _ {s : List ℕ} {shape : Shape} (R : Ready s shape) {c : List ℤ} {h t 
         subst (λ (l : List ℕ). State s shape c′ h l f′ n i (a + 1)) (sym et) (subst (λ (l : List ℤ). State s shape l h (set t (255 * a + i) j) f′ n i (a + 1)) (sym ec) Q),
         subst (λ (l : List ℤ). Fell (shape .counters) c h f n l h f′ n) (sym ec) (falling-less p),
       )
+
+  -- what it did to the rows
+  pub advance-settled : (c′ : List ℤ) (t′ f′ : List ℕ) → Settled (m .rules) (shape .actions) c t′ f n i j c′ f′
+      → Advance (decode s) n (rowIn (shape .counters) c h) (rowIn (shape .counters) c′ h) i a
+  unfolding cutTo
+  advance-settled c′ t′ f′ (settled-same e ec ef) =
+      subst (λ (l : List ℤ). Advance (decode s) n (rowIn (shape .counters) c h) (rowIn (shape .counters) l h) i a) (sym ec) (advance-same R S hi O j hj u e)
+  advance-settled c′ t′ f′ (settled-cut ne ec lf ef) =
+      subst (λ (l : List ℤ). Advance (decode s) n (rowIn (shape .counters) c h) (rowIn (shape .counters) l h) i a) (sym ec) (advance-changed R S hi O j hj u)
 
 -- signed numbers of the same bits are the same
 pub bits-same : (x y : ℤ) → SFits w64 x → SFits w64 y → ofZ w64 x ≡ ofZ w64 y → x ≡ y

@@ -21,7 +21,8 @@ use Rattle.refinement.specs.Table.{SoundRow}
 use Rattle.refinement.specs.Flags.{Elsewhere, flagged, flagged-down}
 use Rattle.refinement.specs.SheetTable.{Row, sheetFrame, Completed, moveAt, regionRow, cutRow, step-open, row-fits, open-fits-at}
 use Rattle.refinement.specs.Potential.{Falling}
-use Rattle.refinement.specs.Loop.{Working, rowsPotential, working-first, working-begin, working-barred, working-same, working-cut, working-append, landed, working-end, working-done, working-many}
+use Rattle.refinement.specs.Depth.{AllDeep}
+use Rattle.refinement.specs.Loop.{Advance, advance-cut, advance-barred, working-deep, Working, rowsPotential, working-first, working-begin, working-barred, working-same, working-cut, working-append, landed, working-end, working-done, working-many}
 use Rattle.sheet.specs.declared.Shape.{Shape}
 use Rattle.sheet.specs.declared.Ranges.{Ranges}
 use Rattle.sheet.specs.declared.Values.{Values}
@@ -193,6 +194,11 @@ module _ {s : List ℕ} {shape : Shape} (R : Ready s shape) where
           ranges-padded = S .ranges-padded;
         }
 
+    pub advance-stopped : moveAt (decode s) a (configMeant (shape .counters) (configIn c h i)) ≡ Model.Barred
+        → Advance (decode s) n (rowIn (shape .counters) c h) (rowIn (shape .counters) c h) i a
+    unfolding rowIn
+    advance-stopped e = advance-barred (decode s) (R .well) {row = rowIn (shape .counters) c h} i a (S .working) hi e
+
     module _ {m : RegionMove} (O : OpenAt s shape c h i a m) where
       -- the landing as the model names it
       in-row : (j : ℕ) → holdsIn (shape .counters) c h (landThree m (configIn c h i)) j ≡ true
@@ -292,6 +298,21 @@ module _ {s : List ℕ} {shape : Shape} (R : Ready s shape) where
             padded-at : (k : ℕ) → k < n → Dec (k ≡ i) → rangesIn (putRanges c i cutTo) i ≡ cutTo → PaddedRanges (shape .counters) (rangesIn (putRanges c i cutTo) k)
             padded-at k l (yes e) q = subst (λ (v : ℕ). PaddedRanges (shape .counters) (rangesIn (putRanges c i cutTo) v)) (sym e) (subst (PaddedRanges (shape .counters)) (sym q) cut-padded-in)
             padded-at k l (no d) q = subst (PaddedRanges (shape .counters)) (sym (ranges-other c i cutTo k d)) (S .ranges-padded k l)
+
+        -- What either does to the rows.
+        pub advance-same : cutTo ≡ rangesIn c i → Advance (decode s) n (rowIn (shape .counters) c h) (rowIn (shape .counters) c h) i a
+        unfolding rowIn
+        advance-same e =
+            advance-cut (decode s) (R .well) {row′ = rowIn (shape .counters) c h} i a j (S .working) hi hj (O .meant) (in-row j u) (cut-row c refl (sym e)) (λ k l d. refl)
+
+        pub advance-changed : Advance (decode s) n (rowIn (shape .counters) c h) (rowIn (shape .counters) (putRanges c i cutTo) h) i a
+        unfolding rowIn
+        advance-changed =
+            let few = S .working .few in
+            let room = S .cells-room in
+            advance-cut (decode s) (R .well) {row′ = rowIn (shape .counters) (putRanges c i cutTo) h} i a j (S .working) hi hj (O .meant) (in-row j u)
+            (cut-row (putRanges c i cutTo) (values-kept c i cutTo i) (ranges-same c i cutTo (omega arith)))
+            (λ k l d. row-kept (shape .counters) c (putRanges c i cutTo) h h k (values-kept c i cutTo k) (ranges-other c i cutTo k d) refl)
 
 -- A new row: it has the configuration and the box of its region, and the other rows are as they were.
 module _ {s : List ℕ} {shape : Shape} (R : Ready s shape) (c : List ℤ) (h : List ℕ) (n : ℕ) (x : Config) where
@@ -461,6 +482,11 @@ module _ {s : List ℕ} {shape : Shape} (R : Ready s shape) where
     pub state-many : n ≡ 255 → tooMany (decode s) ≡ true
     unfolding rowIn
     state-many e = working-many (decode s) (R .well) i a (S .working) hi e (O .meant) (λ k l. not-in-row R S hi O k (u k l))
+
+    -- And so there are where all rows are 256 deep.
+    pub state-deep : AllDeep (sheetFrame (decode s)) n (rowIn (shape .counters) c h) 256 → tooMany (decode s) ≡ true
+    unfolding rowIn
+    state-deep D = working-deep (decode s) (R .well) {row = rowIn (shape .counters) c h} i a (S .working) hi (O .meant) (λ k l. not-in-row R S hi O k (u k l)) D
 
   -- The first state: the start with its region, its flag up.
   start-config : configMeant (shape .counters) (startThree s) ≡ decode s .start

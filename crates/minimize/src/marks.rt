@@ -46,32 +46,3 @@ pub fn last_raised(flags: &[u8], n: usize, at: usize) -> usize
     }
     n
 }
-
-// 0 where no flag below at is up. It only spares a search: nothing rests on it.
-fn flags_below(flags: &[u8], at: usize) -> u8
-    requires { ⌜ FlagsRoom (now flags) ⌝ }
-    requires { ⌜ at ≤ 255 ⌝ }
-{
-    let mut all = 0;
-    for k in 0..at {
-        all |= flags[k];
-    }
-    all
-}
-
-// A row whose flag is up, else n: the last below at, or else the last of all.
-pub fn next_raised(flags: &[u8], n: usize, at: usize) -> usize
-    requires { ⌜ FlagsRoom (now flags) ⌝ }
-    requires { ⌜ n ≤ 255 ⌝ }
-    ensures { λ r. ⌜ LastRaised (flagIn (now (flags .entry))) n n r ⌝ }
-{
-    if at < n {
-        if flags_below(flags, at) > 0 {
-            let k = last_raised(flags, n, at);
-            if k < n {
-                return k;
-            }
-        }
-    }
-    last_raised(flags, n, n)
-}

@@ -98,7 +98,7 @@ pub fn turn(
     requires { ⌜ Ready (now s) shape ⌝ }
     requires { ⌜ State (now s) shape (now cells) (now homes) (now targets) (now flags) n 255 0 ⌝ }
     requires { ⌜ (i < n) × (0 < flagIn (now flags) i) ⌝ }
-    ensures { λ r. ⌜ Turned (now (s .entry)) shape (now (cells .entry)) (now (homes .entry)) (now (flags .entry)) n (now (cells .exit)) (now (homes .exit)) (now (targets .exit)) (now (flags .exit)) r ⌝ }
+    ensures { λ r. ⌜ Turned (now (s .entry)) shape (now (cells .entry)) (now (homes .entry)) (now (flags .entry)) n (now (cells .exit)) (now (homes .exit)) (now (targets .exit)) (now (flags .exit)) i r ⌝ }
 {
     flags[i] = 0;
     let mut rows = n;

@@ -1,9 +1,11 @@
 pub mod Table
+pub mod Depth
 pub mod Flags
 pub mod Numbering
 pub mod Walk
 pub mod Potential
 pub mod SheetTable
+pub mod Bound
 pub mod Widths
 pub mod Loop
 pub mod Completed

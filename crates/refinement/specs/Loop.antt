@@ -1,17 +1,20 @@
 -- The state of the refinement loop, and what each of its steps does to it: the laws that the code's loop invariants are made of.
 use Prim.Native.Nat.{ℕ, suc, _≤_, _<_}
+use native.Mathlib.Decide.{ℕ-discrete}
 use native.Mathlib.Omega.{arith}
 use mathlib.Core.Path.{_≡_, sym, ap, subst, _∙_}
 use mathlib.Core.Bool.{true}
 use mathlib.Core.List.{List}
 use lib.Dec.{T}
 use Rattle.model.specs.declared.Rule.{Rule}
-use Rattle.model.specs.Sheet.{Barred, Open, Sheet, inBox, landing, sheetSystem, WellFormed}
+use Rattle.model.specs.Sheet.{Configuration, Barred, Open, Sheet, inBox, landing, sheetSystem, WellFormed}
 use Rattle.model.specs.Blocks.{tooMany}
 use Rattle.model.specs.Classes.{covered-in}
-use Rattle.refinement.specs.Table.{Sound, StableAt, stable-barred, stable-open, cut-settled}
+use Rattle.refinement.specs.Table.{Sound, Cut, StableAt, stable-barred, stable-open, cut-settled}
 use Rattle.refinement.specs.Flags.{Quiet, Elsewhere, quiet-first, quiet-begin, quiet-end, quiet-pass, quiet-cut, quiet-append, quiet-stable}
-use Rattle.refinement.specs.SheetTable.{Row, sheetFrame, Completed, moveAt, regionRow, cutRow, step-open, step-barred, sheet-framed, preimage-cut, sheet-first, sheet-cut, sheet-append, sheet-many}
+use Rattle.refinement.specs.SheetTable.{Row, sheetFrame, Completed, moveAt, regionRow, cutRow, step-open, step-barred, sheet-framed, preimage-cut, leads-in, sheet-first, sheet-cut, sheet-append, sheet-many}
+use Rattle.refinement.specs.Depth.{Shrunk, Follows, AllDeep, shrunk-refl, follows-cut, follows-barred, follows-stable}
+use Rattle.refinement.specs.Bound.{deep-many}
 use Rattle.refinement.specs.Potential.{potential, potential-cut, potential-append}
 use Rattle.refinement.specs.Widths.{rowWidth, widest, row-width, cut-narrower}
 
@@ -29,6 +32,11 @@ rowsPotential n row = potential widest (λ k. rowWidth (row k)) n
 -- the rows are as they were but for row i
 abbrev pub OtherRows : ℕ → ℕ → (ℕ → Row) → (ℕ → Row) → Type 0
 OtherRows n i row row′ = (k : ℕ) → k < n → (k ≡ i → ⊥) → row′ k ≡ row k
+
+-- What an action of row i does to the rows while no row is new: they shrink, and row i follows the action into the rows before.
+pub record Advance (s : Sheet) (n : ℕ) (row row′ : ℕ → Row) (i a : ℕ) : Type 0 where
+  pub shrunk : Shrunk (sheetFrame s) n row row′
+  pub follows : Follows (sheetFrame s) n row (row′ i) a
 
 module _ (s : Sheet) (W : WellFormed s) where
   -- The first state: the start with its region, its flag up.
@@ -89,6 +97,45 @@ module _ (s : Sheet) (W : WellFormed s) where
           potential-cut widest (λ k. rowWidth (row k)) (λ k. rowWidth (row′ k)) n i hi
               (cut-narrower s W {a = a} {r = row i} {w = row j} {r′ = row′ i} (S .rows i hi) D ne) (λ k l d. ap rowWidth (o k l d)),
         )
+
+    -- The same of the rows alone: also where the cut leaves row i as it is.
+    pub advance-cut : {row′ : ℕ → Row} (i a j : ℕ) {target : ℕ} {rules : List Rule} → Working s n row t f i a → i < n → j < n
+        → moveAt s a (row i .representative) ≡ Open target rules → T (inBox (row j .box) (landing target rules (row i .representative)))
+        → row′ i ≡ cutRow (row i) target rules (row j) → OtherRows n i row row′ → Advance s n row row′ i a
+    advance-cut {row′} i a j Q hi hj e u q o =
+        let (S, D) = sheet-cut s W row′ i a j (Q .sound) hi hj e u q o in
+        record {
+          shrunk = record { represents = λ k h. same k h (ℕ-discrete k i) D; inside = λ k h y v. within k h y v (ℕ-discrete k i) D };
+          follows = follows-cut (sheetFrame s) {row = row} {r′ = row′ i} i j hj (leads-in s W a (row i .representative) (row j) e u) D;
+        }
+      where
+        same : (k : ℕ) → k < n → Dec (k ≡ i) → Cut (sheetFrame s) a (row i) (row j) (row′ i) → row′ k .representative ≡ row k .representative
+        same k h (yes d) D = ap (λ (m : ℕ). row′ m .representative) d ∙ D .represents ∙ ap (λ (m : ℕ). row m .representative) (sym d)
+        same k h (no d) D = ap (λ (r : Row). r .representative) (o k h d)
+
+        within : (k : ℕ) → k < n → (y : Configuration) → T (inBox (row′ k .box) y) → Dec (k ≡ i) → Cut (sheetFrame s) a (row i) (row j) (row′ i) → T (inBox (row k .box) y)
+        within k h y v (yes d) D =
+            subst (λ (m : ℕ). T (inBox (row m .box) y)) (sym d) (D .exact y .0 (subst (λ (m : ℕ). T (inBox (row′ m .box) y)) d v) .0)
+        within k h y v (no d) D = subst (λ (r : Row). T (inBox (r .box) y)) (o k h d) v
+
+    pub advance-barred : (i a : ℕ) → Working s n row t f i a → i < n → moveAt s a (row i .representative) ≡ Barred → Advance s n row row i a
+    unfolding sheetSystem
+    advance-barred i a Q hi e =
+        record {
+          shrunk = shrunk-refl (sheetFrame s);
+          follows = follows-barred (sheetFrame s) (sheet-framed s W) (row i) a (Q .sound .rows i hi) (step-barred s a (row i .representative) e);
+        }
+
+    -- a row whose flag is down follows every action, where no row is in work
+    pub down-follows : {c : ℕ} (k b : ℕ) → Working s n row t f 255 c → k < n → b < s .actions → f k ≡ 0 → Follows (sheetFrame s) n row (row k) b
+    down-follows k b Q h l e =
+        let few = Q .few in
+        follows-stable (sheetFrame s) (sheet-framed s W) (row k) b (t k b) (Q .sound .rows k h) (Q .quiet .stable k b h l e (λ q. absurd (omega arith)))
+
+    -- A landing in no row of a table that is 256 deep: there are too many blocks.
+    pub working-deep : (i a : ℕ) {target : ℕ} {rules : List Rule} → Working s n row t f i a → i < n → moveAt s a (row i .representative) ≡ Open target rules
+        → ((k : ℕ) → k < n → T (inBox (row k .box) (landing target rules (row i .representative))) → ⊥) → AllDeep (sheetFrame s) n row 256 → tooMany s ≡ true
+    working-deep i a Q hi e u D = deep-many s W i a (Q .sound) D hi e u
 
     -- The landing is in no row: it comes as a new row with the box of its region, its flag up: the potential falls.
     pub working-append : {row′ : ℕ → Row} {t′ : ℕ → ℕ → ℕ} {f′ : ℕ → ℕ} (i a : ℕ) {target : ℕ} {rules : List Rule} → Working s n row t f i a → i < n → n < 255

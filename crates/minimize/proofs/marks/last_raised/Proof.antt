@@ -21,7 +21,7 @@ shared-slice-read-if1 c = omega arith
 
 returns : tie.Need-returns Inv-loop μ-loop
 returns c =
-    record { few = omega arith; found = λ h. c .if1 .taken; none = λ e. absurd (omega arith) }
+    record { few = omega arith; found = λ h. c .if1 .taken; above = λ h i l m. c .before .before .before .loop .inv .1 i (omega arith) m; none = λ e. absurd (omega arith) }
 
 loop-less : tie.Need-loop-less Inv-loop μ-loop
 loop-less c = omega arith
@@ -32,7 +32,7 @@ loop-again c =
     (omega arith, none-more (start .args .flags .now) (c .before .before .before .loop .k) (start .args .at) (omega arith) (c .before .before .before .loop .inv .1) (omega arith))
 
 returns-2 : tie.Need-returns-2 Inv-loop μ-loop
-returns-2 c = record { few = omega arith; found = λ h. absurd (omega arith); none = λ e i h. c .before .loop .inv .1 i (omega arith) h }
+returns-2 c = record { few = omega arith; found = λ h. absurd (omega arith); above = λ h. absurd (omega arith); none = λ e i h. c .before .loop .inv .1 i (omega arith) h }
 
 pub last-raised-spec : {M : Type 1} → statement M
 last-raised-spec =
