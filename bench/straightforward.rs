@@ -1,0 +1,397 @@
+//! The same algorithm in plain Rust, written from its idea: the sheet is read into structs once, and each reached representative has a row
+//! with a box that shrinks to its class. Nothing here is shared with the library.
+
+use crate::sheets::Refusal;
+
+fn refuse<T>(number: u8, returned: usize) -> Result<T, Refusal> {
+    Err(Refusal { number, returned })
+}
+
+#[derive(Clone, Copy, PartialEq)]
+struct Range {
+    low: i32,
+    high: i32,
+}
+
+impl Range {
+    fn has(self, value: i32) -> bool {
+        self.low <= value && value <= self.high
+    }
+
+    fn meet(self, other: Range) -> Range {
+        Range { low: self.low.max(other.low), high: self.high.min(other.high) }
+    }
+
+    fn size(self) -> i64 {
+        (i64::from(self.high) - i64::from(self.low) + 1).max(0)
+    }
+}
+
+const EMPTY: Range = Range { low: 1, high: 0 };
+const ZERO: Range = Range { low: 0, high: 0 };
+
+/// A range for each of three counters; one that the sheet lacks stays at 0.
+type Ranges = [Range; 3];
+
+#[derive(Clone, Copy)]
+enum Rule {
+    Set(i32),
+    Carry { source: usize, factor: i32, offset: i32 },
+}
+
+#[derive(Clone, Copy)]
+struct Move {
+    target: u8,
+    rules: [Rule; 3],
+}
+
+struct Region {
+    label: u16,
+    state: u8,
+    ranges: Ranges,
+    moves: Vec<Option<Move>>,
+}
+
+#[derive(Clone, Copy)]
+struct Configuration {
+    state: u8,
+    values: [i32; 3],
+}
+
+struct Sheet {
+    counters: usize,
+    actions: usize,
+    start: Configuration,
+    regions: Vec<Region>,
+}
+
+fn divide_down(n: i32, by: i32) -> i32 {
+    if by > 0 {
+        n.div_euclid(by)
+    } else {
+        (-n).div_euclid(-by)
+    }
+}
+
+fn divide_up(n: i32, by: i32) -> i32 {
+    -divide_down(-n, by)
+}
+
+impl Move {
+    fn apply(&self, x: &Configuration) -> Configuration {
+        let value = |rule: &Rule| match *rule {
+            Rule::Set(offset) => offset,
+            Rule::Carry { source, factor, offset } => factor * x.values[source] + offset,
+        };
+        Configuration { state: self.target, values: [value(&self.rules[0]), value(&self.rules[1]), value(&self.rules[2])] }
+    }
+
+    /// What of the ranges the move takes into the wanted ones.
+    fn preimage(&self, wanted: &Ranges, mut ranges: Ranges) -> Ranges {
+        for (rule, want) in self.rules.iter().zip(wanted) {
+            match *rule {
+                Rule::Set(offset) if want.has(offset) => {}
+                Rule::Set(_) => return [EMPTY; 3],
+                Rule::Carry { source, factor, offset } => {
+                    let (low, high) = (want.low - offset, want.high - offset);
+                    let (low, high) = if factor > 0 { (low, high) } else { (high, low) };
+                    let old = Range { low: divide_up(low, factor), high: divide_down(high, factor) };
+                    ranges[source] = ranges[source].meet(old);
+                }
+            }
+        }
+        ranges
+    }
+}
+
+impl Region {
+    fn has(&self, x: &Configuration) -> bool {
+        self.state == x.state && within(&self.ranges, x)
+    }
+}
+
+fn within(ranges: &Ranges, x: &Configuration) -> bool {
+    ranges.iter().zip(&x.values).all(|(range, value)| range.has(*value))
+}
+
+fn volume(ranges: &Ranges) -> i64 {
+    ranges.iter().map(|r| r.size()).product()
+}
+
+fn signed16(bytes: &[u8], at: usize) -> i32 {
+    i32::from(i16::from_le_bytes([bytes[at], bytes[at + 1]]))
+}
+
+fn read_rule(bytes: &[u8], at: usize, counters: usize) -> Result<Rule, Refusal> {
+    let (kind, source, factor) = (bytes[at], bytes[at + 1] as usize, i32::from(bytes[at + 2] as i8));
+    let offset = i32::from_le_bytes([bytes[at + 3], bytes[at + 4], bytes[at + 5], bytes[at + 6]]);
+    let wrong = match kind {
+        0 if source != 0 => Some(1),
+        0 if factor != 0 => Some(2),
+        1 if source >= counters => Some(1),
+        1 if factor == 0 || !(-100..=100).contains(&factor) => Some(2),
+        0 | 1 if !(-4_000_000..=4_000_000).contains(&offset) => Some(3),
+        0 | 1 => None,
+        _ => Some(0),
+    };
+    match wrong {
+        Some(field) => refuse(4, at + field),
+        None if kind == 0 => Ok(Rule::Set(offset)),
+        None => Ok(Rule::Carry { source, factor, offset }),
+    }
+}
+
+fn read_move(bytes: &[u8], at: usize, counters: usize) -> Result<Option<Move>, Refusal> {
+    match bytes[at] {
+        0 => match bytes[at + 1..at + 2 + 7 * counters].iter().position(|b| *b != 0) {
+            None => Ok(None),
+            // the place of an offset is that of its first byte
+            Some(k) if k > 0 && (k - 1) % 7 > 3 => refuse(4, at + 1 + k - ((k - 1) % 7 - 3)),
+            Some(k) => refuse(4, at + 1 + k),
+        },
+        1 => {
+            let mut rules = [Rule::Set(0); 3];
+            for (v, rule) in rules[..counters].iter_mut().enumerate() {
+                *rule = read_rule(bytes, at + 2 + 7 * v, counters)?;
+            }
+            Ok(Some(Move { target: bytes[at + 1], rules }))
+        }
+        _ => refuse(4, at),
+    }
+}
+
+fn read_region(bytes: &[u8], at: usize, counters: usize, actions: usize) -> Result<Region, Refusal> {
+    let mut ranges = [ZERO; 3];
+    for (v, range) in ranges[..counters].iter_mut().enumerate() {
+        let place = at + 3 + 4 * v;
+        *range = Range { low: signed16(bytes, place), high: signed16(bytes, place + 2) };
+        if range.low > range.high {
+            return refuse(4, place + 2);
+        }
+    }
+    let first = at + 3 + 4 * counters;
+    let moves = (0..actions).map(|a| read_move(bytes, first + a * (2 + 7 * counters), counters)).collect::<Result<_, _>>()?;
+    Ok(Region { label: u16::from_le_bytes([bytes[at], bytes[at + 1]]), state: bytes[at + 2], ranges, moves })
+}
+
+/// The sheet, and the size of a region record; refusals 1 to 4.
+fn read(bytes: &[u8]) -> Result<(Sheet, usize), Refusal> {
+    if bytes.len() < 9 || !bytes.starts_with(b"MSH\x01\x00") {
+        return refuse(1, 0);
+    }
+    if let Some(k) = [3, 8, 32].iter().zip(&bytes[5..8]).position(|(most, n)| n < &1 || n > most) {
+        return refuse(2, 5 + k);
+    }
+    let (counters, actions, count) = (bytes[5] as usize, bytes[6] as usize, bytes[7] as usize);
+    let (first, size) = (9 + 2 * counters, 3 + 4 * counters + actions * (2 + 7 * counters));
+    if bytes.len() != first + count * size {
+        return refuse(3, bytes.len());
+    }
+    let mut values = [0; 3];
+    (0..counters).for_each(|v| values[v] = signed16(bytes, 9 + 2 * v));
+    let regions = (0..count).map(|i| read_region(bytes, first + i * size, counters, actions)).collect::<Result<_, _>>()?;
+    Ok((Sheet { counters, actions, start: Configuration { state: bytes[8], values }, regions }, size))
+}
+
+/// Refusals 5 to 8. Regions are disjoint, so all configurations of a region land just if the volumes of the preimages add up to its own.
+fn check(sheet: &Sheet, size: usize) -> Result<(), Refusal> {
+    let (regions, place) = (&sheet.regions, |i: usize| 9 + 2 * sheet.counters + i * size);
+    if let Some(j) = (0..regions.len()).find(|j| regions[..*j].iter().any(|r| r.label == regions[*j].label)) {
+        return refuse(5, place(j));
+    }
+    let meets = |a: &Region, b: &Region| a.state == b.state && a.ranges.iter().zip(&b.ranges).all(|(p, q)| p.meet(*q).size() > 0);
+    if let Some(j) = (0..regions.len()).find(|j| regions[..*j].iter().any(|r| meets(r, &regions[*j]))) {
+        return refuse(6, place(j));
+    }
+    if !regions.iter().any(|r| r.has(&sheet.start)) {
+        return refuse(7, 8);
+    }
+    for (i, region) in regions.iter().enumerate() {
+        for (a, m) in region.moves.iter().enumerate() {
+            let Some(m) = m else { continue };
+            let targets = regions.iter().filter(|r| r.state == m.target);
+            let landed: i64 = targets.map(|r| volume(&m.preimage(&r.ranges, region.ranges))).sum();
+            if landed != volume(&region.ranges) {
+                return refuse(8, place(i) + 3 + 4 * sheet.counters + a * (2 + 7 * sheet.counters));
+            }
+        }
+    }
+    Ok(())
+}
+
+const NO_ROW: u8 = 255;
+
+/// A reached configuration, with a box that holds its class.
+struct Row {
+    at: Configuration,
+    region: usize,
+    ranges: Ranges,
+    targets: [u8; 8],
+    flagged: bool,
+    /// The rows that have this one as a target; kept with a work list alone.
+    sources: Vec<u8>,
+}
+
+impl Row {
+    fn new(sheet: &Sheet, at: Configuration) -> Row {
+        let region = sheet.regions.iter().position(|r| r.has(&at)).expect("an accepted sheet");
+        let ranges = sheet.regions[region].ranges;
+        Row { at, region, ranges, targets: [NO_ROW; 8], flagged: true, sources: Vec::new() }
+    }
+
+    fn has(&self, x: &Configuration) -> bool {
+        self.at.state == x.state && within(&self.ranges, x)
+    }
+}
+
+/// The rows. Those that may be unstable are flagged, and found in one of two ways: by passes over all rows, as the library does it, or by a
+/// work list and each row's list of sources.
+struct Table<'a, const LISTS: bool> {
+    sheet: &'a Sheet,
+    rows: Vec<Row>,
+    work: Vec<u8>,
+}
+
+impl<const LISTS: bool> Table<'_, LISTS> {
+    /// The row that holds x: the one that did so last time, if it still does. A new one if there is none, and nothing at the 256th.
+    fn find(&mut self, x: Configuration, last: u8) -> Option<usize> {
+        if self.rows.get(last as usize).is_some_and(|row| row.has(&x)) {
+            return Some(last as usize);
+        }
+        if let Some(j) = self.rows.iter().position(|row| row.has(&x)) {
+            return Some(j);
+        }
+        if self.rows.len() == 255 {
+            return None;
+        }
+        self.work.push(self.rows.len() as u8);
+        self.rows.push(Row::new(self.sheet, x));
+        Some(self.rows.len() - 1)
+    }
+
+    fn lead(&mut self, i: usize, a: usize, j: usize) {
+        let old = self.rows[i].targets[a];
+        self.rows[i].targets[a] = j as u8;
+        if LISTS && old != j as u8 {
+            if old != NO_ROW && !self.rows[i].targets.contains(&old) {
+                self.rows[old as usize].sources.retain(|k| *k as usize != i);
+            }
+            if !self.rows[j].sources.contains(&(i as u8)) {
+                self.rows[j].sources.push(i as u8);
+            }
+        }
+    }
+
+    /// Flags the rows that have row i as a target.
+    fn flag_sources(&mut self, i: usize) {
+        if !LISTS {
+            let actions = self.sheet.actions;
+            for row in self.rows.iter_mut().filter(|row| row.targets[..actions].contains(&(i as u8))) {
+                row.flagged = true;
+            }
+            return;
+        }
+        for n in 0..self.rows[i].sources.len() {
+            let k = self.rows[i].sources[n];
+            let row = &mut self.rows[k as usize];
+            if !row.flagged {
+                row.flagged = true;
+                self.work.push(k);
+            }
+        }
+    }
+
+    /// Takes row i by each action and cuts it. Nothing at the 256th row.
+    fn turn(&mut self, i: usize) -> Option<()> {
+        self.rows[i].flagged = false;
+        let sheet = self.sheet;
+        for (a, m) in sheet.regions[self.rows[i].region].moves.iter().enumerate() {
+            let Some(m) = m else { continue };
+            let next = m.apply(&self.rows[i].at);
+            let j = self.find(next, self.rows[i].targets[a])?;
+            self.lead(i, a, j);
+            let cut = m.preimage(&self.rows[j].ranges, self.rows[i].ranges);
+            if cut != self.rows[i].ranges {
+                self.rows[i].ranges = cut;
+                self.flag_sources(i);
+            }
+        }
+        Some(())
+    }
+
+    /// Turns of flagged rows until there is none; nothing where there are more than 255 rows.
+    fn stabilize(&mut self) -> Option<()> {
+        if LISTS {
+            while let Some(i) = self.work.pop() {
+                self.turn(i as usize)?;
+            }
+            return Some(());
+        }
+        while self.rows.iter().any(|row| row.flagged) {
+            for i in (0..self.rows.len()).rev() {
+                if self.rows[i].flagged {
+                    self.turn(i)?;
+                }
+            }
+        }
+        Some(())
+    }
+}
+
+fn refine<const LISTS: bool>(sheet: &Sheet) -> Option<Vec<Row>> {
+    let mut table = Table::<LISTS> { sheet, rows: vec![Row::new(sheet, sheet.start)], work: vec![0] };
+    table.stabilize()?;
+    Some(table.rows)
+}
+
+/// The rows in the chart's order, and the number of each.
+fn number(rows: &[Row], actions: usize) -> (Vec<usize>, Vec<u8>) {
+    let (mut order, mut numbers) = (vec![0], vec![NO_ROW; rows.len()]);
+    numbers[0] = 0;
+    let mut at = 0;
+    while at < order.len() {
+        for j in rows[order[at]].targets[..actions].iter().filter(|j| **j != NO_ROW) {
+            let j = *j as usize;
+            if numbers[j] == NO_ROW {
+                numbers[j] = order.len() as u8;
+                order.push(j);
+            }
+        }
+        at += 1;
+    }
+    (order, numbers)
+}
+
+fn write(sheet: &Sheet, rows: &[Row], chart: &mut [u8], list: &mut [u8]) {
+    let (order, numbers) = number(rows, sheet.actions);
+    chart[..7].copy_from_slice(&[b'B', b'C', b'H', 1, 0, sheet.actions as u8, rows.len() as u8]);
+    let records = chart[7..].chunks_mut(2 + sheet.actions).zip(list.chunks_mut(1 + 4 * sheet.counters));
+    for (i, (record, entry)) in order.iter().zip(records) {
+        let row = &rows[*i];
+        record[..2].copy_from_slice(&sheet.regions[row.region].label.to_le_bytes());
+        for (byte, j) in record[2..].iter_mut().zip(&row.targets) {
+            *byte = if *j == NO_ROW { 255 } else { numbers[*j as usize] };
+        }
+        entry[0] = row.at.state;
+        for (bytes, range) in entry[1..].chunks_mut(4).zip(&row.ranges) {
+            bytes[..2].copy_from_slice(&(range.low as i16).to_le_bytes());
+            bytes[2..].copy_from_slice(&(range.high as i16).to_le_bytes());
+        }
+    }
+}
+
+/// Chart and box list of a sheet, from the front of two buffers; the number of blocks, or a refusal.
+pub fn make<const LISTS: bool>(bytes: &[u8], chart: &mut [u8], list: &mut [u8]) -> Result<usize, Refusal> {
+    let (sheet, size) = read(bytes)?;
+    check(&sheet, size)?;
+    let Some(rows) = refine::<LISTS>(&sheet) else { return refuse(9, 0) };
+    for (needed, room) in
+        [(7 + rows.len() * (2 + sheet.actions), chart.len()), (rows.len() * (1 + 4 * sheet.counters), list.len())]
+    {
+        if room < needed {
+            return refuse(10, needed);
+        }
+    }
+    write(&sheet, &rows, chart, list);
+    Ok(rows.len())
+}
