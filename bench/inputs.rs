@@ -68,9 +68,6 @@ fn in_turn() -> Vec<u8> {
     sheet(3, 1, vec![LOW; 3], regions)
 }
 
-/// What the names of inputs have that take minutes.
-pub const MINUTES: &str = "3 actions";
-
 /// Each with its name; the steps of a grid are chosen so that the blocks come out as named.
 pub fn all() -> Vec<(&'static str, Vec<u8>)> {
     vec![

@@ -204,10 +204,8 @@ fn main() {
         VERSIONS[version].1(&inputs[input].1, &mut cleared());
         return;
     }
-    let long = words == ["long"];
     println!("Processor time of a call\n\n{HEAD}");
-    let chosen = inputs.iter().enumerate().filter(|(_, (name, _))| name.contains(inputs::MINUTES) == long);
-    let lines: Vec<(String, String)> = chosen.map(|(i, (name, sheet))| measure(i, name, sheet)).collect();
+    let lines: Vec<(String, String)> = inputs.iter().enumerate().map(|(i, (name, sheet))| measure(i, name, sheet)).collect();
     println!("\nInstructions of a call\n\n{HEAD}");
     lines.iter().for_each(|(_, second)| println!("{second}"));
 }

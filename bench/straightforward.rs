@@ -319,7 +319,8 @@ impl<const LISTS: bool> Table<'_, LISTS> {
         Some(())
     }
 
-    /// Turns of flagged rows until there is none; nothing where there are more than 255 rows.
+    /// Turns of flagged rows until there is none; nothing where there are more than 255 rows, or will be: after 256 passes without a new
+    /// row every block is found, if there are at most 255.
     fn stabilize(&mut self) -> Option<()> {
         if LISTS {
             while let Some(i) = self.work.pop() {
@@ -327,11 +328,30 @@ impl<const LISTS: bool> Table<'_, LISTS> {
             }
             return Some(());
         }
+        let mut passes = 0;
         while self.rows.iter().any(|row| row.flagged) {
-            for i in (0..self.rows.len()).rev() {
-                if self.rows[i].flagged {
-                    self.turn(i)?;
-                }
+            let rows = self.rows.len();
+            self.pass()?;
+            if self.rows.len() == rows {
+                passes += 1;
+            } else if passes >= 256 {
+                return None;
+            } else {
+                passes = 0;
+            }
+        }
+        Some(())
+    }
+
+    /// Turns of flagged rows from the last to the first, up to a new row.
+    fn pass(&mut self) -> Option<()> {
+        let rows = self.rows.len();
+        for i in (0..rows).rev() {
+            if self.rows[i].flagged {
+                self.turn(i)?;
+            }
+            if self.rows.len() > rows {
+                break;
             }
         }
         Some(())

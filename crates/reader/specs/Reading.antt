@@ -9,7 +9,6 @@ use Rattle.answers.specs.declared.Checked.{Checked}
 use Rattle.answers.specs.declared.Checked.the-variants.{Fine, Refused}
 use Rattle.model.specs.Chart.{actionsOf, blocksOf, labelOf, targetOf}
 use Rattle.chart.specs.Check.{headerCheck, chartCheck}
-use Rattle.reader.specs.declared.Handed.{Handed}
 use Rattle.reader.specs.declared.Handed.the-variants.{Block, NoneLeft}
 use Rattle.reader.specs.declared.Step.{Step}
 use Rattle.reader.specs.declared.Opening.{Opening}

@@ -3,7 +3,7 @@ use mathlib.Core.Path.{_≡_, refl, sym, ap, _∙_}
 use mathlib.Core.Logic.{⊎-elim}
 use mathlib.Core.Bool.{Bool, true, false, _&&_}
 use mathlib.Core.List.{List, [], _∷_}
-use Prim.Native.Nat.{ℕ, zero, suc, _+_, _≤_, _<_}
+use Prim.Native.Nat.{ℕ, _+_, _≤_, _<_}
 use native.Mathlib.Omega.{arith}
 use native.Mathlib.Nat.{eq-or-lt-of-le}
 use native.Mathlib.Decide.{decLe}
@@ -14,12 +14,12 @@ use borrow.Author.Tests.{lt-ltb, le-ltb}
 use Rattle.systems.specs.Lists.{collect, length-each, getD-each}
 use Rattle.answers.specs.declared.Checked.{Checked}
 use Rattle.answers.specs.declared.Checked.the-variants.{Fine, Refused}
-use Rattle.model.specs.Chart.{actionsOf, blocksOf, labelOf, targetOf}
+use Rattle.model.specs.Chart.{blocksOf, labelOf}
 use Rattle.chart.specs.Check.{headerCheck, chartCheck}
 use Rattle.reader.specs.declared.Handed.the-variants.{Block}
 use Rattle.reader.specs.declared.Step.{Step}
 use Rattle.reader.specs.declared.Opening.{Opening}
-use Rattle.reader.specs.Reading.{isFine, hasBlock, eightTargets, targetsOf, noTargets, blockStep, noneStep, stepAt, firstNext, openingOf}
+use Rattle.reader.specs.Reading.{isFine, hasBlock, eightTargets, targetsOf, blockStep, noneStep, stepAt, firstNext, openingOf}
 
 pub length-eight : (f : ℕ → ℕ) (n : ℕ) → length (eightTargets f n) ≡ 8
 unfolding eightTargets

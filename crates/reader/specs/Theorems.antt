@@ -1,12 +1,10 @@
 -- What a reader's calls give together: every block in order, then none for ever; and the chart's bytes back. Statements first.
 use mathlib.Core.Path.{_≡_, refl, sym, ap, _∙_}
-use mathlib.Core.Bool.{Bool, true, false}
-use mathlib.Core.List.{List, [], _∷_, _++_}
+use mathlib.Core.List.{List, [], _++_}
 use Prim.Native.Nat.{ℕ, zero, suc, _+_, _*_, _≤_, _<_}
 use native.Mathlib.Omega.{arith}
 use native.Mathlib.Decide.{decLe}
-use native.Mathlib.Numerals.{add-one}
-use lib.ListN.{length, getD, take, drop, length-drop}
+use lib.ListN.{length, take, drop, length-drop}
 use lib.Seq.{ext-getD, getD-take, getD-drop, length-take-le, take-add, take-all, drop-drop}
 use Rattle.integers.specs.LittleEndian.{Bytes, split, split-joined, unsignedAt-joined}
 use Rattle.systems.specs.Lists.{collect, collect-ext}

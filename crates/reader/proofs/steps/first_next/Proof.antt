@@ -3,8 +3,6 @@ use Rattle.reader.specs.Reading.{firstNext}
 use borrow.Author.Needs.{needs}
 use Rattle.reader.proofs.steps.first_next.Statement.{statement}
 use Rattle.reader.proofs.steps.first_next.Tie as tie
-use Rattle.reader.proofs.steps.first_next.Reads as reads
-use Rattle.reader.proofs.steps.first_next.Lts as lts
 
 enum-told : tie.Need-enum-told
 enum-told c = search needs

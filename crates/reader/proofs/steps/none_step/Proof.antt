@@ -6,8 +6,6 @@ use Rattle.reader.specs.Reading.{noneStep, noTargets}
 use Rattle.reader.specs.Steps.{eight-none}
 use Rattle.reader.proofs.steps.none_step.Statement.{statement}
 use Rattle.reader.proofs.steps.none_step.Tie as tie
-use Rattle.reader.proofs.steps.none_step.Reads as reads
-use Rattle.reader.proofs.steps.none_step.Lts as lts
 
 returns : tie.Need-returns
 unfolding noneStep noTargets

@@ -2,10 +2,6 @@ use Rattle.reader.specs.Steps.{opened-as}
 use borrow.Author.Needs.{needs}
 use Rattle.reader.proofs.steps.opening.Statement.{statement}
 use Rattle.reader.proofs.steps.opening.Tie as tie
-use Rattle.reader.proofs.steps.opening.Reads as reads
-use Rattle.reader.proofs.steps.opening.Lts as lts
-use Rattle.chart.proofs.check.Reads as check-reads
-use Rattle.reader.proofs.steps.first_next.Reads as first-next-reads
 
 check-requires : tie.Need-check-requires
 check-requires c κs = search needs

@@ -9,10 +9,6 @@ use Rattle.reader.specs.Reading.{eightTargets, targetsOf}
 use Rattle.reader.specs.Steps.{eight-none, eight-more}
 use Rattle.reader.proofs.steps.targets_of.Statement.{statement}
 use Rattle.reader.proofs.steps.targets_of.Tie as tie
-use Rattle.reader.proofs.steps.targets_of.Reads as reads
-use Rattle.reader.proofs.steps.targets_of.Lts as lts
-use Rattle.chart.proofs.fields.actions_of.Reads as actions-of-reads
-use Rattle.chart.proofs.fields.target_of.Reads as target-of-reads
 
 abbrev Inv-loop : tie.InvT-loop
 Inv-loop c i targets₀ a₀ a-end targets a = (a ≤ a-end) × (targets ≡ eightTargets (targetOf c i) a)
