@@ -1,5 +1,5 @@
 -- What is claimed of the running code (the mission's demands 2 and 3). Statements first, then their proofs from the definitions that the contracts cite.
-use mathlib.Core.Path.{_≡_, refl, sym, ap, subst, _∙_}
+use mathlib.Core.Path.{_≡_, refl, sym, ap, subst, subst₂, _∙_}
 use mathlib.Core.Logic.{_↔_}
 use mathlib.Core.Bool.{Bool, true, false, not}
 use mathlib.Core.List.{List}
@@ -15,7 +15,7 @@ use Rattle.answers.specs.declared.Checked.the-variants.{Fine, Refused}
 use Rattle.answers.specs.Stages.{demand, passed, then-fine, demand-fine}
 use Rattle.answers.specs.Run.{overwrite, runChecks, ranBy, leftBy}
 use Rattle.model.specs.Sheet.{Sheet, sheetReading}
-use Rattle.model.specs.Blocks.{blocks, tooMany, chartOf}
+use Rattle.model.specs.Blocks.{blocks, tooMany, chartOf, boxListOf}
 use Rattle.model.specs.Chart.{recordAt}
 use Rattle.model.specs.ChartBytes.{chartOf-length}
 use Rattle.model.specs.Theorems.{MinimalReachable, minimal-reachable, ChartRight, chart-right, charts-tell}
@@ -49,6 +49,10 @@ made s chart list = madeBy (makeChecks s (length chart) (length list)) (decode s
 
 abbrev pub chartLeft : List ℕ → List ℕ → List ℕ → List ℕ
 chartLeft s chart list = writtenBy (makeChecks s (length chart) (length list)) (chartOf (decode s)) chart
+
+-- and the list's
+abbrev pub listLeft : List ℕ → List ℕ → List ℕ → List ℕ
+listLeft s chart list = writtenBy (makeChecks s (length chart) (length list)) (boxListOf 2 (decode s)) list
 
 -- a making that was not refused
 pub record Makes (s : List ℕ) (n : ℕ) : Type 0 where
@@ -146,6 +150,9 @@ demand-3 s t chart₁ list₁ chart₂ list₂ B D = record { equal-charts = λ 
         (λ e. k .0 (sym a ∙ e ∙ b), λ h. a ∙ k .1 h ∙ sym b)
 
 -- the same of answers and buffers that are what the contracts say
+pub demand-2-of : (s chart list : List ℕ) {m : Made} {c : List ℕ} → Bytes s → m ≡ made s chart list → c ≡ chartLeft s chart list → Demand2 s m c
+demand-2-of s chart list B p u = subst₂ (Demand2 s) (sym p) (sym u) (demand-2 s chart list B)
+
 pub demand-3-of : (s t chart₁ list₁ chart₂ list₂ : List ℕ) {m₁ m₂ : Made} {c₁ c₂ : List ℕ} → Bytes s → Bytes t → m₁ ≡ made s chart₁ list₁ → m₂ ≡ made t chart₂ list₂
     → c₁ ≡ chartLeft s chart₁ list₁ → c₂ ≡ chartLeft t chart₂ list₂ → Demand3 s t m₁ m₂ c₁ c₂
 demand-3-of s t chart₁ list₁ chart₂ list₂ {m₁} {m₂} {c₁} {c₂} B D p q u v =

@@ -1,5 +1,6 @@
-// Two makings of charts, and what is claimed of them (demand 3). The statements stand in specs/Claims.antt.
-ghost use Rattle.claims.specs.Claims.{Demand3};
+// Two makings of charts, and what is claimed of them (demands 2 and 3). The statements stand in specs/Claims.antt.
+ghost use mathlib.Core.Path.{_≡_};
+ghost use Rattle.claims.specs.Claims.{Demand2, Demand3, made, chartLeft, listLeft};
 use charting::Made;
 use charting::make;
 
@@ -9,7 +10,8 @@ pub struct TwoMade {
     pub second: Made,
 }
 
-// Makes the charts of two sheets. Where both were made, the chart bytes are equal just when the sheets behave alike.
+// Makes the charts of two sheets, the first in the first two buffers. Each is the minimal reachable graph of its sheet, and where both were
+// made, the chart bytes are equal just when the sheets behave alike.
 pub fn make_two(
     first: &[u8],
     second: &[u8],
@@ -19,6 +21,13 @@ pub fn make_two(
     second_list: &mut [u8],
 ) -> TwoMade
     ensures { λ r. ⌜ Demand3 (now (first .entry)) (now (second .entry)) (r .first) (r .second) (now («first_chart» .exit)) (now («second_chart» .exit)) ⌝ }
+    ensures { λ r. ⌜ Demand2 (now (first .entry)) (r .first) (now («first_chart» .exit)) × Demand2 (now (second .entry)) (r .second) (now («second_chart» .exit)) ⌝ }
+    ensures { λ r. ⌜ r .first ≡ made (now (first .entry)) (now («first_chart» .entry)) (now («first_list» .entry)) ⌝ }
+    ensures { λ _. ⌜ now («first_chart» .exit) ≡ chartLeft (now (first .entry)) (now («first_chart» .entry)) (now («first_list» .entry)) ⌝ }
+    ensures { λ _. ⌜ now («first_list» .exit) ≡ listLeft (now (first .entry)) (now («first_chart» .entry)) (now («first_list» .entry)) ⌝ }
+    ensures { λ r. ⌜ r .second ≡ made (now (second .entry)) (now («second_chart» .entry)) (now («second_list» .entry)) ⌝ }
+    ensures { λ _. ⌜ now («second_chart» .exit) ≡ chartLeft (now (second .entry)) (now («second_chart» .entry)) (now («second_list» .entry)) ⌝ }
+    ensures { λ _. ⌜ now («second_list» .exit) ≡ listLeft (now (second .entry)) (now («second_chart» .entry)) (now («second_list» .entry)) ⌝ }
 {
     let one = make(first, first_chart, first_list);
     let two = make(second, second_chart, second_list);

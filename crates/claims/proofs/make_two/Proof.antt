@@ -1,4 +1,5 @@
-use Rattle.claims.specs.Claims.{demand-3-of}
+use Rattle.integers.specs.LittleEndian.{Bytes}
+use Rattle.claims.specs.Claims.{demand-2-of, demand-3-of}
 use borrow.Author.Needs.{needs}
 use Rattle.claims.proofs.make_two.Statement.{statement}
 use Rattle.claims.proofs.make_two.Tie as tie
@@ -24,10 +25,22 @@ same-length-4 c = search needs
 returns : tie.Need-returns
 returns c =
     let start = c .before .before .before .before .before .before .before .before .before .before .before .before .before .before .before .before .before .before .before .before in
-    let one = c .before .before .before .before .before .before .before .before .before .before .before .make in
-    let two = c .before .before .before .before .make2 in
-    demand-3-of (start .args .first .now) (start .args .second .now) (start .args .first-chart .now) (start .args .first-list .now) (start .args .second-chart .now) (start .args .second-list .now)
-    (λ i. c .before .before .before .before .before .before .before .before .before .before .before .before .before .before .before .before .before .before .before .shared-slice-known .given i .fits) (λ i. c .before .before .before .before .before .before .before .before .before .before .before .before .before .before .before .before .before .before .shared-slice-known2 .given i .fits) (one .ensures .0) (two .ensures .0) (one .ensures .1 .0) (two .ensures .1 .0)
+    let s = start .args .first .now in
+    let t = start .args .second .now in
+    let chart₁ = start .args .first-chart .now in
+    let list₁ = start .args .first-list .now in
+    let chart₂ = start .args .second-chart .now in
+    let list₂ = start .args .second-list .now in
+    let B : Bytes s = λ i. c .before .before .before .before .before .before .before .before .before .before .before .before .before .before .before .before .before .before .before .shared-slice-known .given i .fits in
+    let D : Bytes t = λ i. c .before .before .before .before .before .before .before .before .before .before .before .before .before .before .before .before .before .before .shared-slice-known2 .given i .fits in
+    let one = c .before .before .before .before .before .before .before .before .before .before .before .make .ensures in
+    let two = c .before .before .before .before .make2 .ensures in (
+      demand-3-of s t chart₁ list₁ chart₂ list₂ B D (one .0) (two .0) (one .1 .0) (two .1 .0),
+      (
+        (demand-2-of s chart₁ list₁ B (one .0) (one .1 .0), demand-2-of t chart₂ list₂ D (two .0) (two .1 .0)),
+        (one .0, (one .1 .0, (one .1 .1, (two .0, (two .1 .0, two .1 .1))))),
+      ),
+    )
 
 pub make-two-spec : {M : Type 1} → statement M
 make-two-spec =
