@@ -4,3 +4,4 @@ pub mod Padding
 pub mod State
 pub mod Cutting
 pub mod Steps
+pub mod Passes

@@ -1,5 +1,5 @@
 use borrow.Author.Needs.{needs}
-use Rattle.minimize.specs.Steps.{begun, full, next}
+use Rattle.minimize.specs.Passes.{begun, full, next}
 use native.Mathlib.Omega.{arith}
 use Rattle.minimize.proofs.table.passes_after.Statement.{statement}
 use Rattle.minimize.proofs.table.passes_after.Tie as tie

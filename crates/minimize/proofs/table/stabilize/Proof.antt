@@ -1,6 +1,7 @@
 use native.Mathlib.Omega.{arith}
 use mathlib.Core.Path.{sym, _∙_}
-use Rattle.minimize.specs.Steps.{measureIn, Sweeping, sweeping-first, sweeping-on, sweeping-many, stable-many, stable-now}
+use Rattle.minimize.specs.Steps.{measureIn, stable-many, stable-now}
+use Rattle.minimize.specs.Passes.{Sweeping, sweeping-first, sweeping-on, sweeping-many}
 use Rattle.minimize.proofs.table.stabilize.Statement.{statement}
 use Rattle.minimize.proofs.table.stabilize.Tie as tie
 

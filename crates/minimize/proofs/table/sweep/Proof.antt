@@ -1,7 +1,7 @@
 use native.Mathlib.Omega.{arith}
 use Prim.Native.Nat.{_+_, _-_, _≤_}
 use mathlib.Core.Path.{sym, _∙_}
-use Rattle.minimize.specs.Steps.{Passing, pass-begin, pass-down, pass-turned, swept-new, swept}
+use Rattle.minimize.specs.Passes.{Passing, pass-begin, pass-down, pass-turned, swept-new, swept}
 use Rattle.minimize.proofs.table.sweep.Statement.{statement}
 use Rattle.minimize.proofs.table.sweep.Tie as tie
 
