@@ -22,7 +22,7 @@ use Rattle.model.specs.Chart.{actionsOf, blocksOf, recordAt, labelOf, targetOf,
 use Rattle.model.specs.Rounds.{TargetsRight, rounds-told}
 use Rattle.chart.specs.Check.{targetAt, marked, lengthCheck, headerCheck, targetCheck, targetsCheck, recordCheck, orderCheck, numberCheck, numbersCheck, sameBar, sameBars, barCheck, barsCheck, classCheck, classesCheck, formCheck, chartCheck}
 use Rattle.chart.specs.Shape.{Shaped, record-start}
-use Rattle.chart.specs.Loops.{demand-yes, or-first, or-second}
+use Rattle.answers.specs.Loops.{demand-yes, or-first, or-second}
 use Rattle.chart.specs.Header.{mark-good, counts-good, length-good, header-passed}
 use Rattle.chart.specs.Classes.{same-barred, same-opened, same-classed}
 

@@ -18,7 +18,7 @@ use Rattle.answers.specs.Stages.{andThen, demand, each}
 use Rattle.model.specs.Chart.{actionsOf, blocksOf, recordAt, labelOf, targetOf, sameTarget, refines, roundClass}
 use Rattle.model.specs.Rounds.{TargetsRight}
 use Rattle.chart.specs.Check.{classCheck, classesCheck}
-use Rattle.chart.specs.Loops.{demand-yes, demand-no, and-both, and-first, and-second, all-stop, all-ended}
+use Rattle.answers.specs.Loops.{demand-yes, demand-no, and-both, and-first, and-second, all-stop, all-ended}
 
 -- what a table holds for a block
 abbrev pub entry : List ℕ → ℕ → ℕ

@@ -15,7 +15,7 @@ use Rattle.model.specs.Blocks.{chartMark}
 use Rattle.model.specs.Chart.{actionsOf, blocksOf, recordAt}
 use Rattle.chart.specs.Check.{marked, markCheck, countCheck, lengthCheck, headerCheck}
 use Rattle.chart.specs.Shape.{Shaped, Counted}
-use Rattle.chart.specs.Loops.{demand-yes, demand-no, and-both, and-first, and-second, all-stop}
+use Rattle.answers.specs.Loops.{demand-yes, demand-no, and-both, and-first, and-second, all-stop}
 
 -- mark and version, byte by byte
 pub mark-wrong : (c : List ℕ) (k : ℕ) → k < 5 → (getD c k 0 ≡ getD chartMark k 0 → ⊥) → false ≡ marked c

@@ -1,6 +1,5 @@
 pub mod Check
 pub mod Shape
-pub mod Loops
 pub mod Header
 pub mod Records
 pub mod Classes

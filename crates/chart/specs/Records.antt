@@ -10,7 +10,7 @@ use borrow.Author.Tests.{lt-ltb, le-ltb, le-leb, lt-leb, eq-eqb, ne-eqb}
 use Rattle.answers.specs.declared.Checked.the-variants.{Fine, Refused}
 use Rattle.model.specs.Chart.{actionsOf, blocksOf, recordAt, labelOf, targetOf, nextAfter, nextIn, nextUnnamed}
 use Rattle.chart.specs.Check.{targetAt, targetCheck, recordCheck, orderCheck, sameBar, sameBars, barCheck}
-use Rattle.chart.specs.Loops.{demand-yes, demand-no, or-first, or-second, or-neither}
+use Rattle.answers.specs.Loops.{demand-yes, demand-no, or-first, or-second, or-neither}
 
 -- 4: one target
 pub target-barred : (c : List ℕ) (i a : ℕ) {t : ℕ} → t ≡ targetOf c i a → t ≡ 255 → Fine ≡ targetCheck c i a

@@ -16,6 +16,7 @@ use Rattle.answers.specs.declared.Checked.{Checked}
 use Rattle.answers.specs.declared.Checked.the-variants.{Fine, Refused}
 use Rattle.model.specs.Chart.{blocksOf, labelOf}
 use Rattle.chart.specs.Check.{headerCheck, chartCheck}
+use Rattle.answers.specs.Loops.{and-second}
 use Rattle.reader.specs.declared.Handed.the-variants.{Block}
 use Rattle.reader.specs.declared.Step.{Step}
 use Rattle.reader.specs.declared.Opening.{Opening}
@@ -109,8 +110,4 @@ opened-with c e = (ap (λ (k : Opening). k .answer) e, ap (λ (k : Opening). k .
 -- past the number of blocks nothing is handed out, whatever the bytes
 pub none-past : (c : List ℕ) (i : ℕ) → blocksOf c ≤ i → stepAt c i ≡ noneStep i
 unfolding hasBlock
-none-past c i h = chosen c i false (ap (λ (b : Bool). isFine (headerCheck c) && b) (le-ltb i (blocksOf c) h) ∙ and-false (isFine (headerCheck c)))
-  where
-    and-false : (b : Bool) → (b && false) ≡ false
-    and-false true = refl
-    and-false false = refl
+none-past c i h = chosen c i false (ap (λ (b : Bool). isFine (headerCheck c) && b) (le-ltb i (blocksOf c) h) ∙ and-second (isFine (headerCheck c)) refl)

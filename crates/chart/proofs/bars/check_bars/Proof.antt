@@ -4,7 +4,7 @@ use Prim.Native.Nat.{_+_, _-_, _≤_}
 use native.Mathlib.Omega.{arith}
 use Rattle.answers.specs.declared.Checked.the-variants.{Fine}
 use Rattle.answers.specs.Stages.{each, each-none}
-use Rattle.chart.specs.Loops.{each-passed, each-refused, each-ended}
+use Rattle.answers.specs.Loops.{each-passed, each-refused, each-ended}
 use Rattle.model.specs.Chart.{blocksOf}
 use Rattle.chart.specs.Check.{barCheck, barsCheck}
 use Rattle.chart.proofs.bars.check_bars.Statement.{statement}

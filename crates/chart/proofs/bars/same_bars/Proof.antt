@@ -7,7 +7,7 @@ use borrow.Author.Tests.{not-true, not-false}
 use Rattle.systems.specs.Search.{all}
 use Rattle.model.specs.Chart.{actionsOf, targetOf}
 use Rattle.chart.specs.Check.{sameBar, sameBars}
-use Rattle.chart.specs.Loops.{all-none, all-more, all-stop, all-ended}
+use Rattle.answers.specs.Loops.{all-none, all-more, all-stop, all-ended}
 use Rattle.chart.specs.Records.{bar-at}
 use Rattle.chart.proofs.bars.same_bars.Statement.{statement}
 use Rattle.chart.proofs.bars.same_bars.Tie as tie

@@ -5,7 +5,7 @@ use Prim.Native.Nat.{ℕ, _+_, _-_, _≤_, _<_}
 use native.Mathlib.Omega.{arith}
 use borrow.Author.Tests.{not-true, not-false}
 use Rattle.systems.specs.Search.{all}
-use Rattle.chart.specs.Loops.{all-none, all-more}
+use Rattle.answers.specs.Loops.{all-none, all-more}
 use Rattle.chart.specs.Classes.{sameAt, agree-first, agree-stop, agree-all, agree-at}
 use Rattle.chart.proofs.rounds.agrees.Statement.{statement}
 use Rattle.chart.proofs.rounds.agrees.Tie as tie

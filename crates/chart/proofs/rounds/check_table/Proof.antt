@@ -7,7 +7,7 @@ use Rattle.answers.specs.declared.Checked.the-variants.{Fine}
 use Rattle.answers.specs.Stages.{each, each-none, each-more, each-first}
 use Rattle.model.specs.Chart.{blocksOf}
 use Rattle.chart.specs.Check.{classCheck}
-use Rattle.chart.specs.Loops.{each-ended}
+use Rattle.answers.specs.Loops.{each-ended}
 use Rattle.chart.specs.Classes.{entry, class-own, class-shared}
 use Rattle.chart.proofs.rounds.check_table.Statement.{statement}
 use Rattle.chart.proofs.rounds.check_table.Tie as tie
