@@ -7,9 +7,8 @@ mod straightforward;
 #[path = "../tests/library/generate.rs"]
 #[allow(dead_code)]
 mod generate;
-#[path = "../tests/library/library.rs"]
-#[allow(dead_code)]
-mod library;
+#[path = "../include/pilfstera.rs"]
+mod pilfstera;
 #[path = "../tests/library/random.rs"]
 #[allow(dead_code)]
 mod random;
@@ -41,15 +40,14 @@ struct Outcome {
 
 /// Room for any chart and box list. They are cleared once, and not between the calls that are timed.
 fn cleared() -> Outcome {
-    Outcome { answer: Ok(0), chart: vec![0; 2557], list: vec![0; 3315] }
+    Outcome { answer: Ok(0), chart: vec![0; pilfstera::LONGEST_CHART], list: vec![0; pilfstera::LONGEST_LIST] }
 }
 
 // Each version is a function of its own name, so that instructions can be counted within it alone. That of the library is its export.
 
 fn by_library(sheet: &[u8], out: &mut Outcome) -> bool {
-    let mut returned = 0;
-    let number = library::make(sheet, &mut out.chart, &mut out.list, &mut returned);
-    out.answer = if number == 0 { Ok(returned) } else { Err(Refusal { number, returned }) };
+    let made = pilfstera::make(sheet, &mut out.chart, &mut out.list);
+    out.answer = made.map_err(|refusal| Refusal { number: refusal.number, returned: refusal.returned });
     true
 }
 

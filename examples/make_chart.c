@@ -10,7 +10,7 @@ int main(void) {
         printf("refused %u at %zu\n", refused, returned);
         return 1;
     }
-    for (size_t i = 0; i < 7 + returned * (2 + chart[5]); i++)
+    for (size_t i = 0; i < PILFSTERA_CHART_LENGTH(returned, chart[5]); i++)
         printf(i ? " %02X" : "%02X", chart[i]);
     printf("\n");
     return 0;

@@ -1,17 +1,57 @@
-/* Pilfstera for C: link libpilfstera.a, which `rt staticlib pilfstera` writes into target/staticlib.
+/* Pilfstera for C and C++: link libpilfstera.a, which `rt staticlib pilfstera` writes into target/staticlib.
 
-   Each function returns 0 where it was done, else the number of the refusal, 1 to 14, and stores through `returned` what the
-   refusal returns: a place, an index or a length. A refusal alters no buffer. Nothing is asked of what the buffers hold. A pointer
-   beside a length of 0 is not read, but is not null either. No two of the buffers and numbers that are written may overlap, and none
-   of them a buffer that is read. */
+   Each function returns 0 where it was done, else the number of the refusal, 1 to 14, and stores a number through `returned`: what
+   its comment says where it was done, else what the table says. A refusal alters no buffer. Nothing is asked of what the buffers hold.
+
+   A slice is a pointer and a length, in bytes or in entries of 16 bits. A pointer beside a length of 0 is not read, but is not null
+   either. No two of the buffers and numbers that are written may overlap, and none of them a buffer that is read. The functions
+   allocate nothing and keep nothing from call to call, so threads may call them at once; making a chart takes less than 64 KiB of
+   stack.
+
+   Refusal  Of                 Why                                                          `*returned`
+     1      sheet, chart       shorter than its header, or wrong mark or version            0
+     2      sheet, chart       a count outside its limits                                   place of the first
+     3      sheet, chart, run  length differs from what the counts give; a sequence
+                               above 4,096 actions                                          actual length
+     4      sheet, chart       a field with a value that is not allowed                     its place; of high, where low is above it
+     5      sheet              a label repeated                                             place of the later label
+     6      sheet              two regions that share a configuration                       place of the later region
+     7      sheet              the start is in no region                                    8, place of the start state
+     8      sheet              an open move that leads out of all regions                   place of the first such move record
+     9      making             more than 255 blocks                                         0
+    10      making, run        a buffer too short; chart, then list                         length needed, in entries of the buffer
+    11      run                an action that the sheet or chart lacks                      index of the first
+    12      chart              blocks not numbered as first named                           place of the target or record
+    13      chart              same label, other actions barred                             place of the later record
+    14      chart              two blocks that no sequence tells apart                      place of the later record
+
+   Places count bytes from 0. The first check that fails gives the refusal. Checks run in the order of their numbers, except that a
+   run checks its sheet or chart, then 3 for the sequence, 11, 10. */
 #ifndef PILFSTERA_H
 #define PILFSTERA_H
 
 #include <stddef.h>
 #include <stdint.h>
 
-/* Longest sheet, chart and box list in bytes, and longest sequence of actions. */
+/* Longest sheet, chart and box list in bytes, and longest sequence of actions. Every chart and box list fits into buffers of these
+   lengths. A reader of sheets may stop one byte past the longest: whatever is longer is refused. */
 enum { PILFSTERA_SHEET = 6383, PILFSTERA_CHART = 2557, PILFSTERA_LIST = 3315, PILFSTERA_ACTIONS = 4096 };
+
+/* Most blocks of a chart, and most actions, counters and regions of a sheet. Blocks and actions are numbered from 0; 255 in the place
+   of a chart's target says that the action is barred. */
+enum { PILFSTERA_MOST_BLOCKS = 255, PILFSTERA_MOST_ACTIONS = 8, PILFSTERA_MOST_COUNTERS = 3, PILFSTERA_MOST_REGIONS = 32 };
+
+/* Bytes of a chart and of a box list. Byte 5 of a chart is its number of actions; bytes 5 and 6 of a sheet are its numbers of counters
+   and of actions. */
+#define PILFSTERA_CHART_LENGTH(blocks, actions) (7 + (size_t)(blocks) * (2 + (size_t)(actions)))
+#define PILFSTERA_LIST_LENGTH(blocks, counters) ((size_t)(blocks) * (1 + 4 * (size_t)(counters)))
+
+/* Entries that the labels of a run need: one for the start, and one for each action. */
+#define PILFSTERA_RUN_ROOM(actions) ((size_t)(actions) + 1)
+
+#ifdef __cplusplus
+extern "C" {
+#endif
 
 /* Checks a sheet: refusals 1 to 8. `returned` is 0 where it is accepted. */
 uint8_t pilfstera_check_sheet(const uint8_t *sheet, size_t length, size_t *returned);
@@ -21,15 +61,21 @@ uint8_t pilfstera_check_sheet(const uint8_t *sheet, size_t length, size_t *retur
 uint8_t pilfstera_make(const uint8_t *sheet, size_t length, uint8_t *chart, size_t chart_room, uint8_t *list,
                        size_t list_room, size_t *returned);
 
-/* Checks a chart: refusals 1 to 4 and 12 to 14. `returned` is 0 where it is accepted. */
+/* Checks a chart: refusals 1 to 4 and 12 to 14. `length` is the chart's own, not that of its buffer. `returned` is 0 where it is
+   accepted. */
 uint8_t pilfstera_check_chart(const uint8_t *chart, size_t length, size_t *returned);
 
-/* Runs `count` actions on a sheet or on a chart: its refusals, then 3, 11 and 10. `room` counts entries and must be above `count`.
-   `returned` is the number of labels written; `barred` is the index of the barred action, or `count` if nothing was barred, and is
-   left as it was by a refusal. */
+/* Runs `count` actions on a sheet or on a chart, from the start up to the first that is barred, and writes the labels read: refusals of
+   the sheet or chart, then 3, 11 and 10. `room` counts entries and must be above `count`, whatever is barred. `returned` is the number
+   of labels written, from the front; what lies behind is left as it was. `barred` is the index of the barred action, or `count` if
+   nothing was barred, and is left as it was by a refusal. */
 uint8_t pilfstera_run_sheet(const uint8_t *sheet, size_t length, const uint8_t *actions, size_t count, uint16_t *labels,
                             size_t room, size_t *returned, size_t *barred);
 uint8_t pilfstera_run_chart(const uint8_t *chart, size_t length, const uint8_t *actions, size_t count, uint16_t *labels,
                             size_t room, size_t *returned, size_t *barred);
+
+#ifdef __cplusplus
+}
+#endif
 
 #endif

@@ -6,7 +6,9 @@ mod generate;
 mod library;
 mod random;
 mod sheets;
+mod wrapper;
 
+use library::raw;
 use random::Random;
 use sheets::{Made, Reading, Refusal, Sheet};
 use std::collections::BTreeMap;
@@ -33,9 +35,14 @@ fn same<T: PartialEq + std::fmt::Debug>(what: &str, bytes: &[u8], library: T, ex
     }
 }
 
-/// An answer as the library gives it: 0 and a value, or a refusal.
+/// An answer as C sees it: 0 and a value, or a refusal.
 fn told(answer: Result<usize, Refusal>) -> (u8, usize) {
     answer.map_or_else(|r| (r.number, r.returned), |value| (0, value))
+}
+
+/// A refusal of the safe functions, to be compared with one of the independent implementation.
+fn plain(refusal: library::Refusal) -> Refusal {
+    Refusal { number: refusal.number, returned: refusal.returned }
 }
 
 impl Test {
@@ -52,7 +59,17 @@ impl Test {
         [0, needed.saturating_sub(1), needed, needed + 1 + self.rng.below(20)]
     }
 
-    /// One making, in buffers of noise that go on behind their ends.
+    /// What the check of a sheet or a chart gives: the safe function says the same as C sees.
+    fn check(&mut self, kind: &str, bytes: &[u8]) -> (u8, usize) {
+        let raw_check = if kind == "sheet" { raw::check_sheet } else { raw::check_chart };
+        let check = if kind == "sheet" { library::check_sheet } else { library::check_chart };
+        let mut returned = self.noise();
+        let number = raw_check(bytes, &mut returned);
+        same(&format!("safe check of a {kind}"), bytes, told(check(bytes).map(|()| 0).map_err(plain)), (number, returned));
+        (number, returned)
+    }
+
+    /// One making, as C calls it and by the safe function, in buffers of noise that go on behind their ends.
     fn make(&mut self, sheet: &[u8], expected: &Result<Made, Refusal>, chart_room: usize, list_room: usize) {
         let (chart, list) = (self.rng.bytes(chart_room + 40), self.rng.bytes(list_room + 40));
         let answer = match expected {
@@ -73,28 +90,40 @@ impl Test {
             Err(Refusal { number: 10, .. }) => self.count("make: refused 10 for the list"),
             Err(refusal) => self.count(format!("make: refused {}", refusal.number)),
         }
-        let (mut chart, mut list, mut returned) = (chart, list, self.noise());
-        let number = library::make(sheet, &mut chart[..chart_room], &mut list[..list_room], &mut returned);
-        same("answer of make", sheet, (number, returned), told(answer.map(|made| made.blocks)));
-        same("chart", sheet, chart, chart_left);
-        same("box list", sheet, list, list_left);
+        let (mut raw_chart, mut raw_list, mut returned) = (chart.clone(), list.clone(), self.noise());
+        let number = raw::make(sheet, &mut raw_chart[..chart_room], &mut raw_list[..list_room], &mut returned);
+        let (mut chart, mut list) = (chart, list);
+        let safe = library::make(sheet, &mut chart[..chart_room], &mut list[..list_room]);
+        let answer = answer.map(|made| made.blocks);
+        same("answer of make", sheet, (number, returned), told(answer));
+        same("answer of the safe make", sheet, safe.map_err(plain), answer);
+        for (chart, list) in [(raw_chart, raw_list), (chart, list)] {
+            same("chart", sheet, &chart, &chart_left);
+            same("box list", sheet, &list, &list_left);
+        }
     }
 
-    /// One run, on a sheet or a chart, in a buffer of noise that goes on behind its end.
+    /// One run, on a sheet or a chart, as C calls it and by the safe function, in a buffer of noise that goes on behind its end.
     fn run(&mut self, kind: &str, bytes: &[u8], actions: &[u8], room: usize, expected: &Result<Reading, Refusal>) {
         let noise: Vec<u16> = (0..room + 10).map(|_| self.rng.next() as u16).collect();
         let (mut left, mut barred_left) = (noise.clone(), self.noise());
-        let (mut labels, mut barred, mut returned) = (noise, barred_left, self.noise());
+        let (mut raw_labels, mut barred, mut returned) = (noise.clone(), barred_left, self.noise());
         if let Ok(reading) = expected {
             left[..reading.labels.len()].copy_from_slice(&reading.labels);
             barred_left = reading.barred.unwrap_or(actions.len());
         }
-        let run = if kind == "sheet" { library::run_sheet } else { library::run_chart };
-        let number = run(bytes, actions, &mut labels[..room], &mut returned, &mut barred);
+        let raw_run = if kind == "sheet" { raw::run_sheet } else { raw::run_chart };
+        let number = raw_run(bytes, actions, &mut raw_labels[..room], &mut returned, &mut barred);
         let what = format!("run on a {kind}, room {room}, actions {}", hex(actions));
         same(&what, bytes, (number, returned), told(expected.as_ref().map(|r| r.labels.len()).map_err(|r| *r)));
         same(&format!("barred index, {what}"), bytes, barred, barred_left);
-        same(&format!("labels, {what}"), bytes, labels, left);
+        same(&format!("labels, {what}"), bytes, &raw_labels, &left);
+        let run = if kind == "sheet" { library::run_sheet } else { library::run_chart };
+        let mut labels = noise;
+        let safe = run(bytes, actions, &mut labels[..room]).map(|run| (run.labels, run.barred)).map_err(plain);
+        let ended = expected.as_ref().map(|reading| (reading.labels.len(), reading.barred)).map_err(|refusal| *refusal);
+        same(&format!("safe {what}"), bytes, safe, ended);
+        same(&format!("labels, safe {what}"), bytes, &labels, &left);
     }
 
     /// A sequence of actions, most of them below the number of actions.
@@ -138,8 +167,7 @@ impl Test {
 
     /// Check, chart, box list and runs of any bytes, taken for a sheet.
     fn sheet(&mut self, bytes: &[u8]) {
-        let mut returned = self.noise();
-        let number = library::check_sheet(bytes, &mut returned);
+        let (number, returned) = self.check("sheet", bytes);
         let read = sheets::check_but_landing(bytes);
         if read.as_ref().is_ok_and(|s| sheets::configurations(s) > MOST_CONFIGURATIONS) {
             same("refusals 1 to 7", bytes, number == 0 || number == 8, true);
@@ -181,18 +209,17 @@ impl Test {
                 self.make(bytes, &expected, chart_room, list_room);
             }
         }
-        let mut returned = self.noise();
-        let number = library::check_chart(&made.chart, &mut returned);
-        same("check of the chart made", bytes, (number, returned), (0, 0));
+        wrapper::lengths(bytes, sheet, made.blocks);
+        let checked = self.check("chart", &made.chart);
+        same("check of the chart made", bytes, checked, (0, 0));
         self.runs(&[("sheet", bytes), ("chart", &made.chart)], sheet.actions, read);
     }
 
     /// Check and runs of any bytes, taken for a chart.
     fn chart(&mut self, bytes: &[u8]) {
         let checked = charts::check(bytes);
-        let mut returned = self.noise();
-        let number = library::check_chart(bytes, &mut returned);
-        same("check of a chart", bytes, (number, returned), told(checked.as_ref().map(|_| 0).map_err(|r| *r)));
+        let told_check = self.check("chart", bytes);
+        same("check of a chart", bytes, told_check, told(checked.as_ref().map(|_| 0).map_err(|r| *r)));
         match checked {
             Ok(chart) => {
                 self.count("chart: accepted");
@@ -326,6 +353,7 @@ fn main() {
     let numbers: Vec<u64> = std::env::args().skip(1).map(|a| a.parse().expect("a number")).collect();
     let [count, seed] = numbers[..] else { panic!("usage: library COUNT SEED") };
     let mut test = Test { rng: Random(seed), kinds: BTreeMap::new() };
+    wrapper::test();
     named(&mut test);
     random_sheets(&mut test, count as usize);
     grids(&mut test, count as usize / 40);

@@ -162,4 +162,5 @@ def main():
     sys.exit(1 if differ or missing else 0)
 
 
-main()
+if __name__ == "__main__":
+    main()

@@ -1,0 +1,241 @@
+// Pilfstera for Rust programs: safe functions over slices, for what `rt staticlib pilfstera` writes into target/staticlib. A program takes
+// this file in as a module, by its path from the program's own file,
+//
+//     #[path = "../include/pilfstera.rs"]
+//     mod pilfstera;
+//
+// or by `mod pilfstera { include!("../include/pilfstera.rs"); }`, and is linked with `-L target/staticlib -l static=pilfstera`. It needs
+// rustc 1.82 or later. A sheet's chart is then made and run so, with `sheet` the bytes of the sheet:
+//
+//     use pilfstera::{chart_length, make, run_chart, run_room, LONGEST_CHART, LONGEST_LIST};
+//
+//     fn show(sheet: &[u8]) -> Result<(), pilfstera::Refusal> {
+//         let (mut chart, mut list) = ([0; LONGEST_CHART], [0; LONGEST_LIST]);
+//         let blocks = make(sheet, &mut chart, &mut list)?;
+//         let chart = &chart[..chart_length(blocks, chart[5] as usize)];
+//         let mut labels = [0; run_room(2)];
+//         let run = run_chart(chart, &[0, 0], &mut labels)?;
+//         println!("{blocks} blocks; actions 0, 0 read {:?}, barred: {:?}", &labels[..run.labels], run.barred);
+//         Ok(())
+//     }
+
+#[allow(unused_imports)]
+pub use self::library::*;
+
+// Everything stands in a module, since a file that is taken in by `include!` cannot say for itself that parts of it may stay unused.
+#[allow(dead_code)]
+mod library {
+    use std::error::Error;
+    use std::fmt;
+
+    /// Bytes of the longest sheet, that of 32 regions, 8 actions and 3 counters. A reader of sheets may stop one byte past it: whatever is
+    /// longer is refused.
+    pub const LONGEST_SHEET: usize = 6383;
+
+    /// Bytes of the longest chart: a buffer of this length suffices for every sheet.
+    pub const LONGEST_CHART: usize = 2557;
+
+    /// Bytes of the longest box list: a buffer of this length suffices for every sheet.
+    pub const LONGEST_LIST: usize = 3315;
+
+    /// Actions in the longest sequence that a run takes.
+    pub const LONGEST_SEQUENCE: usize = 4096;
+
+    /// The most blocks that a chart has. They are numbered from 0, and 255 in the place of a target says that the action is barred.
+    pub const MOST_BLOCKS: usize = 255;
+
+    /// The most actions that a sheet or a chart has. They are numbered from 0.
+    pub const MOST_ACTIONS: usize = 8;
+
+    /// The most counters that a sheet has.
+    pub const MOST_COUNTERS: usize = 3;
+
+    /// The most regions that a sheet has.
+    pub const MOST_REGIONS: usize = 32;
+
+    /// Bytes of a chart. The number of actions is byte 6 of the sheet and byte 5 of the chart.
+    pub const fn chart_length(blocks: usize, actions: usize) -> usize {
+        7 + blocks * (2 + actions)
+    }
+
+    /// Bytes of a box list. The number of counters is byte 5 of the sheet.
+    pub const fn list_length(blocks: usize, counters: usize) -> usize {
+        blocks * (1 + 4 * counters)
+    }
+
+    /// The entries that the labels' buffer of a run must have: one for the start, and one for each action.
+    pub const fn run_room(actions: usize) -> usize {
+        actions + 1
+    }
+
+    /// Why a call was turned back. It altered no buffer. As text it says so in words.
+    #[derive(Clone, Copy, PartialEq, Eq, Debug)]
+    pub struct Refusal {
+        /// The refusal's number, 1 to 14: the first check that failed.
+        pub number: u8,
+        /// By number: 2, 4 to 8 and 12 to 14 the place in the sheet or chart, in bytes from 0; 3 the actual length, 10 the length needed,
+        /// 11 the index of the action; 1 and 9 nothing, and 0.
+        pub returned: usize,
+    }
+
+    impl Refusal {
+        /// What is wrong, and what the number returned says of it.
+        fn words(self) -> (&'static str, &'static str) {
+            match self.number {
+                1 => ("the sheet or chart is shorter than its header, or its mark or version is wrong", "no place is told"),
+                2 => ("a count is outside its limits", "the first such count stands there"),
+                3 => ("the length differs from what the counts give, or is above 4,096 actions", "that is the actual length"),
+                4 => ("a field has a value that is not allowed", "the first such field stands there"),
+                5 => ("a label is repeated", "the later label stands there"),
+                6 => ("two regions share a configuration", "the later region stands there"),
+                7 => ("the start is in no region", "the start state stands there"),
+                8 => ("an open move leads out of all regions", "its move record stands there"),
+                9 => ("there are more than 255 blocks", "no place is told"),
+                10 => ("a buffer is too short", "that is the length needed, in entries of the buffer"),
+                11 => ("the sheet or chart lacks an action of the sequence", "that is the index of the first such action"),
+                12 => ("the blocks are not numbered as first named", "the target or record that shows it stands there"),
+                13 => ("two blocks of one label bar different actions", "the later record stands there"),
+                14 => ("two blocks are told apart by no sequence", "the later record stands there"),
+                _ => ("no refusal has this number", "what is returned has no meaning"),
+            }
+        }
+    }
+
+    impl fmt::Display for Refusal {
+        fn fmt(&self, f: &mut fmt::Formatter<'_>) -> fmt::Result {
+            let (wrong, told) = self.words();
+            write!(f, "refused {} at {}: {wrong}; {told}", self.number, self.returned)
+        }
+    }
+
+    impl Error for Refusal {}
+
+    /// What a run did.
+    #[derive(Clone, Copy, PartialEq, Eq, Debug)]
+    pub struct Run {
+        /// How many labels were written, from the front of the buffer: that of the start, and one after each action that was not barred.
+        pub labels: usize,
+        /// The index, from 0, of the barred action at which the run ended; nothing where the whole sequence ran.
+        pub barred: Option<usize>,
+    }
+
+    // The library's exports as include/pilfstera.h has them: a slice is a pointer and a length.
+    unsafe extern "C" {
+        pub(super) fn pilfstera_check_sheet(sheet: *const u8, length: usize, returned: *mut usize) -> u8;
+        pub(super) fn pilfstera_make(
+            sheet: *const u8,
+            length: usize,
+            chart: *mut u8,
+            chart_room: usize,
+            list: *mut u8,
+            list_room: usize,
+            returned: *mut usize,
+        ) -> u8;
+        pub(super) fn pilfstera_check_chart(chart: *const u8, length: usize, returned: *mut usize) -> u8;
+        pub(super) fn pilfstera_run_sheet(
+            sheet: *const u8,
+            length: usize,
+            actions: *const u8,
+            count: usize,
+            labels: *mut u16,
+            room: usize,
+            returned: *mut usize,
+            barred: *mut usize,
+        ) -> u8;
+        pub(super) fn pilfstera_run_chart(
+            chart: *const u8,
+            length: usize,
+            actions: *const u8,
+            count: usize,
+            labels: *mut u16,
+            room: usize,
+            returned: *mut usize,
+            barred: *mut usize,
+        ) -> u8;
+    }
+
+    type CheckFunction = unsafe extern "C" fn(*const u8, usize, *mut usize) -> u8;
+    type RunFunction = unsafe extern "C" fn(*const u8, usize, *const u8, usize, *mut u16, usize, *mut usize, *mut usize) -> u8;
+
+    /// The value where the library gave 0, else the refusal.
+    fn answer<T>(number: u8, returned: usize, value: T) -> Result<T, Refusal> {
+        if number == 0 {
+            Ok(value)
+        } else {
+            Err(Refusal { number, returned })
+        }
+    }
+
+    fn check(function: CheckFunction, bytes: &[u8]) -> Result<(), Refusal> {
+        let mut returned = 0;
+        // SAFETY: both checks take a slice's pointer and length, and a number of our own to write; they ask nothing of the bytes.
+        let number = unsafe { function(bytes.as_ptr(), bytes.len(), &mut returned) };
+        answer(number, returned, ())
+    }
+
+    fn run(function: RunFunction, bytes: &[u8], actions: &[u8], labels: &mut [u16]) -> Result<Run, Refusal> {
+        let (mut returned, mut barred) = (0, 0);
+        // SAFETY: both runs take three slices by pointer and length, and two numbers of our own to write. What is written is borrowed
+        // apart from all else, and they ask nothing of what the slices hold.
+        let number = unsafe {
+            function(
+                bytes.as_ptr(),
+                bytes.len(),
+                actions.as_ptr(),
+                actions.len(),
+                labels.as_mut_ptr(),
+                labels.len(),
+                &mut returned,
+                &mut barred,
+            )
+        };
+        // an index is below the number of actions, which stands for none
+        let barred = (barred < actions.len()).then_some(barred);
+        answer(number, returned, Run { labels: returned, barred })
+    }
+
+    /// Accepts a sheet, or refuses it with 1 to 8.
+    pub fn check_sheet(sheet: &[u8]) -> Result<(), Refusal> {
+        check(pilfstera_check_sheet, sheet)
+    }
+
+    /// Makes a sheet's chart and box list, and gives the number of blocks; refusals 1 to 10. Both are written from the front of their
+    /// buffers, in [`chart_length`] and [`list_length`] bytes, and what lies behind is left as it was. Where both buffers are too short
+    /// the chart's length is told.
+    pub fn make(sheet: &[u8], chart: &mut [u8], list: &mut [u8]) -> Result<usize, Refusal> {
+        let mut returned = 0;
+        // SAFETY: three slices by pointer and length, and a number of our own to write. What is written is borrowed apart from all else,
+        // and nothing is asked of what the slices hold.
+        let number = unsafe {
+            pilfstera_make(
+                sheet.as_ptr(),
+                sheet.len(),
+                chart.as_mut_ptr(),
+                chart.len(),
+                list.as_mut_ptr(),
+                list.len(),
+                &mut returned,
+            )
+        };
+        answer(number, returned, returned)
+    }
+
+    /// Accepts a chart just if it obeys the chart rules, or refuses it with 1 to 4 or 12 to 14. The slice ends where the chart ends.
+    pub fn check_chart(chart: &[u8]) -> Result<(), Refusal> {
+        check(pilfstera_check_chart, chart)
+    }
+
+    /// Runs a sequence of actions from a sheet's start, up to the first that is barred, and writes the labels read: that of the start, then
+    /// one after each action. It refuses what [`check_sheet`] does, then a sequence above [`LONGEST_SEQUENCE`] with 3, an action that the
+    /// sheet lacks with 11, and a buffer of fewer than [`run_room`] entries with 10, whatever would be barred. Entries behind the labels
+    /// are left as they were.
+    pub fn run_sheet(sheet: &[u8], actions: &[u8], labels: &mut [u16]) -> Result<Run, Refusal> {
+        run(pilfstera_run_sheet, sheet, actions, labels)
+    }
+
+    /// Runs a sequence of actions from a chart's block 0, as [`run_sheet`] does from a sheet's start; it refuses what [`check_chart`] does,
+    /// then the sequence and the buffer likewise. A sheet and its chart read the same.
+    pub fn run_chart(chart: &[u8], actions: &[u8], labels: &mut [u16]) -> Result<Run, Refusal> {
+        run(pilfstera_run_chart, chart, actions, labels)
+    }
+}

@@ -1,0 +1,17 @@
+/* Writes the lengths and limits of the header, as C and as C++, and the refusal of an empty sheet. */
+#include "pilfstera.h"
+#include <stdio.h>
+
+int main(void) {
+    uint8_t chart[PILFSTERA_CHART_LENGTH(PILFSTERA_MOST_BLOCKS, PILFSTERA_MOST_ACTIONS)];
+    uint8_t list[PILFSTERA_LIST_LENGTH(PILFSTERA_MOST_BLOCKS, PILFSTERA_MOST_COUNTERS)];
+    uint16_t labels[PILFSTERA_RUN_ROOM(PILFSTERA_ACTIONS)];
+    uint8_t sheet[1] = {0};
+    size_t returned = 1;
+    printf("%d %d %d %d\n", PILFSTERA_SHEET, PILFSTERA_CHART, PILFSTERA_LIST, PILFSTERA_ACTIONS);
+    printf("%d %d %d %d\n", PILFSTERA_MOST_BLOCKS, PILFSTERA_MOST_ACTIONS, PILFSTERA_MOST_COUNTERS, PILFSTERA_MOST_REGIONS);
+    printf("%zu %zu %zu\n", sizeof chart, sizeof list, sizeof labels / sizeof labels[0]);
+    unsigned refused = pilfstera_check_sheet(sheet, 0, &returned);
+    printf("refused %u at %zu\n", refused, returned);
+    return 0;
+}

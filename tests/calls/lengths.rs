@@ -1,0 +1,19 @@
+//! Writes the lengths and limits of include/pilfstera.rs, taken in by `include!`, and the refusal of an empty sheet without its words.
+
+mod pilfstera {
+    include!("../../include/pilfstera.rs");
+}
+
+use pilfstera::*;
+
+fn main() {
+    let chart = [0u8; chart_length(MOST_BLOCKS, MOST_ACTIONS)];
+    let list = [0u8; list_length(MOST_BLOCKS, MOST_COUNTERS)];
+    let labels = [0u16; run_room(LONGEST_SEQUENCE)];
+    println!("{LONGEST_SHEET} {LONGEST_CHART} {LONGEST_LIST} {LONGEST_SEQUENCE}");
+    println!("{MOST_BLOCKS} {MOST_ACTIONS} {MOST_COUNTERS} {MOST_REGIONS}");
+    println!("{} {} {}", chart.len(), list.len(), labels.len());
+    if let Err(Refusal { number, returned }) = check_sheet(&[]) {
+        println!("refused {number} at {returned}");
+    }
+}

@@ -1,0 +1,137 @@
+//! What include/pilfstera.rs has of its own: the words of a refusal, the lengths and limits, and how a run ended. Each is held to what the
+//! library answers, or to document 01.
+
+use crate::generate::{encode, one_counter, region};
+use crate::library::{
+    chart_length, check_sheet, list_length, make, run_chart, run_room, run_sheet, Refusal, Run, LONGEST_CHART, LONGEST_LIST,
+    LONGEST_SEQUENCE, LONGEST_SHEET, MOST_ACTIONS, MOST_BLOCKS, MOST_COUNTERS, MOST_REGIONS,
+};
+use crate::same;
+use crate::sheets::{Move, Rule, Sheet};
+use std::collections::BTreeSet;
+use std::error::Error;
+
+fn refused<T>(number: u8, returned: usize) -> Result<T, Refusal> {
+    Err(Refusal { number, returned })
+}
+
+/// By number: what the words must say of the reason, and of the number returned, from document 01's table.
+const WORDS: [(&str, &str); 14] = [
+    ("shorter than its header, or its mark or version", "no place"),
+    ("count is outside its limits", "first such count stands there"),
+    ("length differs from what the counts give, or is above 4,096 actions", "that is the actual length"),
+    ("value that is not allowed", "first such field stands there"),
+    ("label is repeated", "later label stands there"),
+    ("regions share a configuration", "later region stands there"),
+    ("start is in no region", "start state stands there"),
+    ("open move leads out of all regions", "move record stands there"),
+    ("more than 255 blocks", "no place"),
+    ("buffer is too short", "that is the length needed"),
+    ("lacks an action", "that is the index"),
+    ("not numbered as first named", "target or record"),
+    ("one label bar different actions", "later record stands there"),
+    ("told apart by no sequence", "later record stands there"),
+];
+
+/// The words behind a refusal's number and place.
+fn words(number: u8) -> String {
+    let refusal = Refusal { number, returned: 4321 };
+    let text = refusal.to_string();
+    let error: Box<dyn Error> = Box::new(refusal);
+    same("a refusal as an error", &[number], error.to_string(), text.clone());
+    let Some(rest) = text.strip_prefix(&format!("refused {number} at 4321: ")) else {
+        panic!("refusal {number} begins otherwise: {text}");
+    };
+    rest.into()
+}
+
+fn refusals() {
+    let mut seen = BTreeSet::new();
+    for ((wrong, told), number) in WORDS.iter().zip(1..) {
+        let text = words(number);
+        let says = text.split_once("; ").is_some_and(|(why, what)| why.contains(wrong) && what.contains(told));
+        same(&format!("{wrong}; {told} in the words: {text}"), &[number], says, true);
+        same("words that no earlier refusal has", &[number], seen.insert(text), true);
+    }
+    let unknown = words(0);
+    same("words of a number that no refusal has", &[0], seen.contains(&unknown), false);
+    (15..=255).for_each(|number| same("words of an unknown number", &[number], words(number), unknown.clone()));
+    let refusal = Refusal { number: 8, returned: 18 };
+    let copied = refusal;
+    same("a refusal and its copy", &[], refusal, copied);
+    same("refusals of two numbers", &[], refusal == Refusal { number: 7, ..refusal }, false);
+    same("refusals at two places", &[], refusal == Refusal { returned: 19, ..refusal }, false);
+    same("a refusal for debugging", &[], format!("{refusal:?}"), "Refusal { number: 8, returned: 18 }".into());
+}
+
+/// The lengths of an accepted sheet's chart and box list are those that the library asks for.
+pub fn lengths(bytes: &[u8], sheet: &Sheet, blocks: usize) {
+    let (chart, list) = (chart_length(blocks, sheet.actions), list_length(blocks, sheet.counters));
+    same("chart_length", bytes, make(bytes, &mut [], &mut []), refused(10, chart));
+    same("list_length", bytes, make(bytes, &mut vec![0; chart], &mut []), refused(10, list));
+}
+
+/// 32 regions along the first of 3 counters and 8 actions, the first of which adds one up to 254. The last region has the last value alone,
+/// so every value is a block of its own.
+fn longest() -> Sheet {
+    let carry = |source, offset| Rule::Carry { source, factor: 1, offset };
+    let step = || Move { target: 0, rules: vec![carry(0, 1), carry(1, 0), carry(2, 0)] };
+    let ends = |i: i64| match i {
+        31 => (254, 254),
+        30 => (240, 253),
+        _ => (8 * i, 8 * i + 7),
+    };
+    let moves = |i: i64| (0..8).map(|a| (a == 0 && i < 31).then(step)).collect();
+    let regions = (0..32).map(|i| region(i as u16, 0, vec![ends(i), (0, 0), (0, 0)], moves(i))).collect();
+    Sheet { counters: 3, actions: 8, start: (0, vec![0; 3]), regions }
+}
+
+/// The constants are the library's limits: what is at the limit is done, and one more is refused.
+fn limits() {
+    let sheet = longest();
+    let bytes = encode(&sheet);
+    same("LONGEST_SHEET", &bytes, bytes.len(), LONGEST_SHEET);
+    same("check of the longest sheet", &bytes, check_sheet(&bytes), Ok(()));
+    same("LONGEST_CHART", &bytes, make(&bytes, &mut [], &mut []), refused(10, LONGEST_CHART));
+    same("LONGEST_LIST", &bytes, make(&bytes, &mut [0; LONGEST_CHART], &mut []), refused(10, LONGEST_LIST));
+    same("blocks of the longest chart", &bytes, make(&bytes, &mut [0; LONGEST_CHART], &mut [0; LONGEST_LIST]), Ok(MOST_BLOCKS));
+    lengths(&bytes, &sheet, MOST_BLOCKS);
+    for (place, most) in [(5, MOST_COUNTERS), (6, MOST_ACTIONS), (7, MOST_REGIONS)] {
+        same("a count at its limit", &bytes, usize::from(bytes[place]), most);
+        let mut more = bytes.clone();
+        more[place] += 1;
+        same("a count past its limit", &more, check_sheet(&more), refused(2, place));
+    }
+    let counted = |blocks: usize| one_counter(1, &[(1, blocks as i64 - 1, Some((1, 1))), (blocks as i64, blocks as i64, None)]);
+    let made = |blocks| make(&counted(blocks), &mut [0; LONGEST_CHART], &mut [0; LONGEST_LIST]);
+    same("MOST_BLOCKS", &counted(MOST_BLOCKS), made(MOST_BLOCKS), Ok(MOST_BLOCKS));
+    same("a block more", &counted(MOST_BLOCKS + 1), made(MOST_BLOCKS + 1), refused(9, 0));
+    let (actions, mut labels) = ([0; LONGEST_SEQUENCE + 1], [0; run_room(LONGEST_SEQUENCE + 1)]);
+    let barred = Run { labels: 255, barred: Some(254) };
+    same("LONGEST_SEQUENCE", &bytes, run_sheet(&bytes, &actions[1..], &mut labels), Ok(barred));
+    same("an action more", &bytes, run_sheet(&bytes, &actions, &mut labels), refused(3, LONGEST_SEQUENCE + 1));
+    for count in [0, 1, 2, LONGEST_SEQUENCE] {
+        same("run_room", &bytes, run_sheet(&bytes, &actions[..count], &mut labels[..count]), refused(10, run_room(count)));
+    }
+}
+
+/// How runs of the sample sheet and of its chart end: document 01's P9, and shorter ones.
+fn runs() {
+    let ends = [(0, 1, None), (1, 2, None), (2, 3, None), (3, 3, Some(2)), (4, 3, Some(2))];
+    let sheet = one_counter(2, &[(0, 7, Some((2, 1))), (8, 15, None)]);
+    let (mut chart, mut list) = ([0; chart_length(3, 1)], [0; list_length(3, 1)]);
+    same("the sample chart", &sheet, make(&sheet, &mut chart, &mut list), Ok(3));
+    for (count, labels, barred) in ends {
+        let (actions, expected) = (vec![0; count], Ok(Run { labels, barred }));
+        same("a run on the sample sheet", &sheet, run_sheet(&sheet, &actions, &mut vec![0; run_room(count)]), expected);
+        same("a run on the sample chart", &chart, run_chart(&chart, &actions, &mut vec![0; run_room(count)]), expected);
+    }
+    let last = one_counter(8, &[(0, 7, Some((2, 1))), (8, 15, None)]);
+    same("a run barred at once", &last, run_sheet(&last, &[0], &mut [0; 2]), Ok(Run { labels: 1, barred: Some(0) }));
+}
+
+pub fn test() {
+    refusals();
+    limits();
+    runs();
+}
