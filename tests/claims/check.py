@@ -1,16 +1,15 @@
-"""check.py PAGE: every name on the page of claims exists, and the page leaves nothing out.
+"""check.py CLAIMS PAGE..: every name on the pages exists, and the page of claims leaves nothing out.
 
-`crate/specs/File.antt#name` or `crate/src/file.rt#name` is a name that the file under crates/ declares; `edit crate/label` is a must-fail
-edit; `name/path` that begins with a folder at the root is a path. The page has a row for each refusal 1 to 14 and names every edit.
+`crate/specs/File.antt#name` or `crate/src/file.rt#name` is a name that the file under crates/ declares, and `crate/specs/File.antt` such a
+file; `edit crate/label` is a must-fail edit; `name/path` that begins with a folder at the root is a path. The page of claims has a row for
+each refusal 1 to 14 and names every edit.
 """
 import pathlib
 import re
 import sys
 
-page = pathlib.Path(sys.argv[1]).read_text(encoding="utf-8")
-crates = pathlib.Path("crates")
-problems = []
-names = edits = paths = 0
+CRATES = pathlib.Path("crates")
+PATH = r"(?:crates|tests|tools|docs|examples|include|bench|\.ci)(?:/[\w.-]+)*/?"
 
 
 def declares(file, name):
@@ -22,38 +21,52 @@ def declares(file, name):
     if field:
         body = re.search(rf"^pub record {re.escape(record)}[ (].*?(?=^\S|\Z)", text, re.M | re.S)
         return body and re.search(rf"^  pub {re.escape(field)} ", body[0], re.M)
+    if re.search(rf"^pub ruleset {re.escape(name)} ", text, re.M):
+        return True
     return re.search(rf"^\s*(?:unfoldable |abbrev )?(?:pub )?(?:record |data )?{re.escape(name)} [:({{]", text, re.M)
 
 
-named = set()
-for word in re.findall(r"`([^`\n]+)`", page):
+def problem_of(word):
+    """What is wrong with a word of a page in code type, none where it is right, False where it names nothing."""
     if word.startswith("edit "):
-        edits += 1
         crate, _, label = word[5:].partition("/")
-        named.add((crate, label))
-        if not (crates / crate / "must-fail" / f"{label}.edit").is_file():
-            problems.append(f"no such edit: {word}")
-    elif "#" in word:
-        names += 1
+        return None if (CRATES / crate / "must-fail" / f"{label}.edit").is_file() else "no such edit"
+    if "#" in word or re.fullmatch(r"\w+/(?:specs|src)/[\w/]+\.(?:antt|rt)", word):
         path, _, name = word.partition("#")
-        file = crates / path
+        file = CRATES / path
         if not file.is_file():
-            problems.append(f"no such file: {word}")
-        elif not declares(file, name):
-            problems.append(f"no such name: {word}")
-    elif re.fullmatch(r"(?:crates|tests|docs|examples|include|bench|\.ci)(?:/[\w.-]+)*/?", word):
-        paths += 1
-        if not pathlib.Path(word).exists():
-            problems.append(f"no such path: {word}")
+            return "no such file"
+        return None if not name or declares(file, name) else "no such name"
+    if re.fullmatch(PATH, word):
+        return None if pathlib.Path(word).exists() else "no such path"
+    return False
 
-for file in crates.glob("*/must-fail/*.edit"):
-    if (file.parts[1], file.stem) not in named:
-        problems.append(f"not on the page: edit {file.parts[1]}/{file.stem}")
-for number in range(1, 15):
-    if not re.search(rf"^\| {number} \|", page, re.M):
-        problems.append(f"no row for refusal {number}")
 
-for problem in problems:
-    print(problem)
-print(f"claims: {names} names, {edits} mentions of edits, {paths} paths, {len(problems)} wrong")
-sys.exit(1 if problems or not names else 0)
+def left_out(claims):
+    """The edits and the refusals that the page of claims has not."""
+    for file in sorted(CRATES.glob("*/must-fail/*.edit")):
+        edit = f"edit {file.parts[1]}/{file.stem}"
+        if f"`{edit}`" not in claims:
+            yield f"not on the page: {edit}"
+    for number in range(1, 15):
+        if not re.search(rf"^\| {number} \|", claims, re.M):
+            yield f"no row for refusal {number}"
+
+
+def main(pages):
+    problems, names = [], 0
+    for page in pages:
+        for word in re.findall(r"`([^`\n]+)`", page):
+            problem = problem_of(word)
+            names += problem is not False
+            if problem:
+                problems.append(f"{problem}: {word}")
+    problems += left_out(pages[0])
+    for problem in problems:
+        print(problem)
+    print(f"claims: {names} names on {len(pages)} pages, {len(problems)} wrong")
+    return 1 if problems or not names else 0
+
+
+if __name__ == "__main__":
+    sys.exit(main([pathlib.Path(page).read_text(encoding="utf-8") for page in sys.argv[1:]]))

@@ -1,4 +1,5 @@
 // What the public functions answer. Refusal numbers and what each returns are those of document 01's table "Turned back".
+// Public: no function asks anything of its caller, and each contract gives the answer as a definition does.
 
 ghost use mathlib.Core.Path.{_≡_};
 ghost use Rattle.answers.specs.Stages.{demand};

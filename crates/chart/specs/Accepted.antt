@@ -17,14 +17,15 @@ use Rattle.systems.specs.Laws.{least-tells, eqb-tells, true-is, is-true, both, 
 use Rattle.answers.specs.declared.Checked.{Checked}
 use Rattle.answers.specs.declared.Checked.the-variants.{Fine}
 use Rattle.answers.specs.Stages.{andThen, demand, each, passed, then-fine, demand-fine, each-fine, each-all}
+use Rattle.answers.specs.Loops.{demand-yes, or-first, or-second}
 use Rattle.model.specs.Blocks.{chartMark}
 use Rattle.model.specs.Chart.{actionsOf, blocksOf, recordAt, labelOf, targetOf, nextIn, nextUnnamed, sameTarget, refines, roundClass, ToldApart, ChartRules}
 use Rattle.model.specs.Rounds.{TargetsRight, rounds-told}
-use Rattle.chart.specs.Check.{targetAt, marked, lengthCheck, headerCheck, targetCheck, targetsCheck, recordCheck, orderCheck, numberCheck, numbersCheck, sameBar, sameBars, barCheck, barsCheck, classCheck, classesCheck, formCheck, chartCheck}
-use Rattle.chart.specs.Shape.{Shaped, record-start}
-use Rattle.answers.specs.Loops.{demand-yes, or-first, or-second}
-use Rattle.chart.specs.Header.{mark-good, counts-good, length-good, header-passed}
-use Rattle.chart.specs.Classes.{same-barred, same-opened, same-classed}
+use Rattle.chart_bytes.specs.Header.{targetAt, marked, lengthCheck, headerCheck}
+use Rattle.chart_bytes.specs.Shape.{Shaped, record-start}
+use Rattle.chart_bytes.specs.HeaderLaws.{mark-good, counts-good, length-good, header-passed}
+use Rattle.chart_bytes.specs.Classes.{same-barred, same-opened, same-classed}
+use Rattle.chart.specs.Check.{targetCheck, targetsCheck, recordCheck, orderCheck, numberCheck, numbersCheck, sameBar, sameBars, barCheck, barsCheck, classCheck, classesCheck, formCheck, chartCheck}
 
 or-true : (a b : Bool) → (a || b) ≡ true → (a ≡ true) ⊎ (b ≡ true)
 or-true true b e = inl refl

@@ -1,34 +1,13 @@
 -- The check of a chart (document 01, "Turned back"): refusals 1, 2, 3, 4, 12, 13 and 14, each at the first place in file order.
-use mathlib.Core.Bool.{Bool, true, false, not, _||_, _&&_}
+use mathlib.Core.Bool.{Bool, true, false, not, _||_}
 use mathlib.Core.List.{List}
-use Prim.Native.Nat.{ℕ, _+_}
+use Prim.Native.Nat.{ℕ}
 use lib.Dec.{eqb, ltb, leb}
-use lib.ListN.{length, getD}
 use Rattle.systems.specs.Search.{all}
 use Rattle.answers.specs.declared.Checked.{Checked}
 use Rattle.answers.specs.Stages.{andThen, demand, each}
-use Rattle.model.specs.Blocks.{chartMark}
 use Rattle.model.specs.Chart.{actionsOf, blocksOf, recordAt, labelOf, targetOf, nextIn, nextUnnamed, roundClass}
-
--- mark and version are right
-unfoldable pub marked : List ℕ → Bool
-marked c = all (λ k. eqb (getD c k 0) (getD chartMark k 0)) 5
-
--- the byte of a target
-unfoldable pub targetAt : List ℕ → ℕ → ℕ → ℕ
-targetAt c i a = recordAt c i + 2 + a
-
--- 1: shorter than the header, or wrong mark or version
-unfoldable pub markCheck : List ℕ → Checked
-markCheck c = demand (leb 7 (length c) && marked c) 1 0
-
--- 2: a count outside its limits
-unfoldable pub countCheck : List ℕ → Checked
-countCheck c = andThen (demand (leb 1 (actionsOf c) && leb (actionsOf c) 8) 2 5) (demand (leb 1 (blocksOf c) && leb (blocksOf c) 255) 2 6)
-
--- 3: a length that is not what the counts give
-unfoldable pub lengthCheck : List ℕ → Checked
-lengthCheck c = demand (eqb (length c) (recordAt c (blocksOf c))) 3 (length c)
+use Rattle.chart_bytes.specs.Header.{targetAt, headerCheck}
 
 -- 4: a target that is neither a block's number nor 255
 unfoldable pub targetCheck : List ℕ → ℕ → ℕ → Checked
@@ -71,10 +50,6 @@ classCheck c f j = demand (eqb (f j) j) 14 (recordAt c j)
 
 unfoldable pub classesCheck : List ℕ → Checked
 classesCheck c = each (classCheck c (roundClass c (blocksOf c))) (blocksOf c)
-
--- The check of the header: 1, 2, 3.
-unfoldable pub headerCheck : List ℕ → Checked
-headerCheck c = andThen (markCheck c) (andThen (countCheck c) (lengthCheck c))
 
 -- all that comes before 14
 unfoldable pub formCheck : List ℕ → Checked

@@ -1,8 +1,6 @@
 pub mod Check
-pub mod Shape
-pub mod Header
 pub mod Records
-pub mod Classes
+pub mod Apart
 pub mod RunChart
 pub mod Accepted
 pub mod Walk

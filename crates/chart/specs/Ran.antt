@@ -8,10 +8,10 @@ use Rattle.answers.specs.declared.Ran.{Ran}
 use Rattle.answers.specs.Stages.{then-fine}
 use Rattle.answers.specs.Run.{runChecks, ranBy, leftBy}
 use Rattle.answers.specs.Walk.{run-done, run-refused}
+use Rattle.answers.specs.Sequence.{Runs, sequence-passed}
 use Rattle.model.specs.Chart.{actionsOf, chartReading}
 use Rattle.chart.specs.Check.{chartCheck}
 use Rattle.chart.specs.RunChart.{chartRunCheck, chartRan, chartLeft}
-use Rattle.answers.specs.Sequence.{Runs, sequence-passed}
 use Rattle.chart.specs.Accepted.{Formed, check-passed}
 
 pub run-passed : (c w : List ℕ) (room : ℕ) → chartRunCheck c w room ≡ Fine → Formed c × Runs (actionsOf c) w room

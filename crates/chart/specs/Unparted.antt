@@ -15,8 +15,9 @@ use Rattle.answers.specs.declared.Checked.the-variants.{Fine, Refused}
 use Rattle.answers.specs.Stages.{andThen, demand, each, passed, each-first}
 use Rattle.model.specs.Chart.{actionsOf, blocksOf, recordAt, nextIn, nextUnnamed, chartSystem, roundClass}
 use Rattle.model.specs.Rounds.{rounds-alike}
-use Rattle.chart.specs.Check.{markCheck, countCheck, lengthCheck, headerCheck, targetCheck, targetsCheck, recordCheck, orderCheck, numberCheck, numbersCheck, barCheck, barsCheck, classCheck, classesCheck, formCheck, chartCheck}
-use Rattle.chart.specs.Classes.{class-shared}
+use Rattle.chart_bytes.specs.Header.{markCheck, countCheck, lengthCheck, headerCheck}
+use Rattle.chart.specs.Check.{targetCheck, targetsCheck, recordCheck, orderCheck, numberCheck, numbersCheck, barCheck, barsCheck, classCheck, classesCheck, formCheck, chartCheck}
+use Rattle.chart.specs.Apart.{class-shared}
 use Rattle.chart.specs.Accepted.{Formed, form-passed, class-own, own-apart, classes-own}
 
 -- two blocks read alike for every sequence

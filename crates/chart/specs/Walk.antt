@@ -10,7 +10,7 @@ use Rattle.answers.specs.declared.Ending.the-variants.{Whole, Barred}
 use Rattle.answers.specs.declared.Ran.the-variants.{Done}
 use Rattle.answers.specs.Run.{ranBy, leftBy}
 use Rattle.answers.specs.Walk as Any
-use Rattle.model.specs.Chart.{actionsOf, blocksOf, labelOf, targetOf, named, chartSystem, chartReading}
+use Rattle.model.specs.Chart.{actionsOf, blocksOf, labelOf, targetOf, blockNamed, chartSystem, chartReading}
 use Rattle.model.specs.Rounds.{TargetsRight, chartStep-in, named-block, named-barred}
 
 -- After i actions the walk is at a block.
@@ -40,7 +40,7 @@ walk-step c w old ls i block t v k hw hl ha e n b tb d =
       block-there = tb;
       walked =
           Any.walk-step (chartSystem c) 0 w old ls i v block t (k .walked) hw hl
-          (chartStep-in c (getD w i 0) block ha ∙ ap named (sym e) ∙ named-block t (omega arith)) d;
+          (chartStep-in c (getD w i 0) block ha ∙ ap blockNamed (sym e) ∙ named-block t (omega arith)) d;
     }
 
 -- the walk ends at a barred action,
@@ -49,7 +49,7 @@ pub walk-barred : (c w old ls : List ℕ) (i block t : ℕ) → Walk c w old i b
     → (Done (i + 1) (Barred i) ≡ ranBy Fine (chartReading c w)) × (ls ≡ leftBy Fine (chartReading c w) old)
 unfolding chartSystem chartReading
 walk-barred c w old ls i block t k hw hl ha e b =
-    Any.walk-barred (chartSystem c) 0 w old ls i block (k .walked) hw hl (chartStep-in c (getD w i 0) block ha ∙ ap named (sym e) ∙ named-barred t b)
+    Any.walk-barred (chartSystem c) 0 w old ls i block (k .walked) hw hl (chartStep-in c (getD w i 0) block ha ∙ ap blockNamed (sym e) ∙ named-barred t b)
 
 -- or after the last action.
 pub walk-whole : (c w old ls : List ℕ) (i block : ℕ) → Walk c w old i block ls → i ≡ length w → i < length ls

@@ -3,14 +3,14 @@ ghost use mathlib.Core.Path.{_≡_};
 ghost use Prim.Native.Nat.{_<_};
 ghost use Rattle.answers.specs.Stages.{each};
 ghost use Rattle.model.specs.Chart.{blocksOf};
+ghost use Rattle.chart_bytes.specs.Shape.{Shaped};
 ghost use Rattle.chart.specs.Check.{sameBar, sameBars, barCheck, barsCheck};
-ghost use Rattle.chart.specs.Shape.{Shaped};
-use crate::fields::actions_of;
-use crate::fields::blocks_of;
-use crate::fields::label_of;
-use crate::fields::record_at;
-use crate::fields::target_of;
 use answers::Checked;
+use chart_bytes::fields::actions_of;
+use chart_bytes::fields::blocks_of;
+use chart_bytes::fields::label_of;
+use chart_bytes::fields::record_at;
+use chart_bytes::fields::target_of;
 
 // Whether two targets are both barred, or both not.
 fn same_bar(t: usize, u: usize) -> bool
@@ -67,7 +67,7 @@ fn check_later(c: &[u8], j: usize) -> Checked
 }
 
 // All records, the earliest later one first.
-pub fn check_bars(c: &[u8]) -> Checked
+pub(crate) fn check_bars(c: &[u8]) -> Checked
     requires { ⌜ Shaped (now c) ⌝ }
     ensures { λ r. ⌜ r ≡ barsCheck (now (c .entry)) ⌝ }
 {

@@ -1,4 +1,5 @@
 // Charts read from bytes: the check of the chart rules, and the run of an action sequence on a chart.
+// Public: no function asks anything of its caller, and each contract gives the answer as a definition does.
 ghost use mathlib.Core.Path.{_≡_};
 ghost use lib.ListN.{length};
 ghost use Rattle.chart.specs.Check.{formCheck, chartCheck};
@@ -6,12 +7,12 @@ ghost use Rattle.chart.specs.RunChart.{chartRunCheck, chartRan, chartLef
 use answers::Checked;
 use answers::Ran;
 use answers::sequence::check_sequence;
+use chart_bytes::fields::actions_of;
+use chart_bytes::header::check_header;
 
 mod bars;
-pub mod fields;
-pub mod header;
+mod classes;
 mod numbering;
-mod rounds;
 mod targets;
 mod walk;
 
@@ -19,7 +20,7 @@ mod walk;
 fn check_form(c: &[u8]) -> Checked
     ensures { λ r. ⌜ r ≡ formCheck (now (c .entry)) ⌝ }
 {
-    let found = header::check_header(c);
+    let found = check_header(c);
     let Checked::Fine = found else {
         return found;
     };
@@ -42,7 +43,7 @@ pub fn check(c: &[u8]) -> Checked
     let Checked::Fine = form else {
         return form;
     };
-    rounds::check_classes(c)
+    classes::check_classes(c)
 }
 
 // All refusals of a run: the chart's, then those of the sequence and the buffer.
@@ -53,7 +54,7 @@ fn check_run(c: &[u8], actions: &[u8], room: usize) -> Checked
     let Checked::Fine = chart else {
         return chart;
     };
-    check_sequence(actions, fields::actions_of(c), room)
+    check_sequence(actions, actions_of(c), room)
 }
 
 // The run of an action sequence on a chart: the labels read are written from the buffer's front, unless something is refused.

@@ -3,14 +3,14 @@ ghost use mathlib.Core.Path.{_≡_};
 ghost use Prim.Native.Nat.{_≤_, _<_};
 ghost use Rattle.answers.specs.Stages.{each};
 ghost use Rattle.model.specs.Chart.{actionsOf, blocksOf, nextAfter, nextIn};
+ghost use Rattle.chart_bytes.specs.Shape.{Shaped};
 ghost use Rattle.chart.specs.Check.{recordCheck, orderCheck, numberCheck, numbersCheck};
-ghost use Rattle.chart.specs.Shape.{Shaped};
-use crate::fields::actions_of;
-use crate::fields::blocks_of;
-use crate::fields::record_at;
-use crate::fields::target_at;
-use crate::fields::target_of;
 use answers::Checked;
+use chart_bytes::fields::actions_of;
+use chart_bytes::fields::blocks_of;
+use chart_bytes::fields::record_at;
+use chart_bytes::fields::target_at;
+use chart_bytes::fields::target_of;
 
 // The next unnamed number after a target.
 fn next_after(next: usize, t: usize) -> usize
@@ -107,7 +107,7 @@ fn check_number(c: &[u8], i: usize, next: usize) -> Checked
 }
 
 // All records, in file order.
-pub fn check_numbers(c: &[u8]) -> Checked
+pub(crate) fn check_numbers(c: &[u8]) -> Checked
     requires { ⌜ Shaped (now c) ⌝ }
     ensures { λ r. ⌜ r ≡ numbersCheck (now (c .entry)) ⌝ }
 {

@@ -3,13 +3,13 @@ ghost use mathlib.Core.Path.{_≡_};
 ghost use Prim.Native.Nat.{_<_};
 ghost use Rattle.answers.specs.Stages.{each};
 ghost use Rattle.model.specs.Chart.{actionsOf, blocksOf};
+ghost use Rattle.chart_bytes.specs.Shape.{Shaped};
 ghost use Rattle.chart.specs.Check.{targetCheck, targetsCheck};
-ghost use Rattle.chart.specs.Shape.{Shaped};
-use crate::fields::actions_of;
-use crate::fields::blocks_of;
-use crate::fields::target_at;
-use crate::fields::target_of;
 use answers::Checked;
+use chart_bytes::fields::actions_of;
+use chart_bytes::fields::blocks_of;
+use chart_bytes::fields::target_at;
+use chart_bytes::fields::target_of;
 
 // One target.
 fn check_target(c: &[u8], i: usize, a: usize) -> Checked
@@ -46,7 +46,7 @@ fn check_record(c: &[u8], i: usize) -> Checked
 }
 
 // All targets, in file order.
-pub fn check_targets(c: &[u8]) -> Checked
+pub(crate) fn check_targets(c: &[u8]) -> Checked
     requires { ⌜ Shaped (now c) ⌝ }
     ensures { λ r. ⌜ r ≡ targetsCheck (now (c .entry)) ⌝ }
 {

@@ -6,14 +6,14 @@ ghost use Rattle.answers.specs.declared.Checked.the-variants.{Fine};
 ghost use Rattle.answers.specs.Run.{ranBy, leftBy};
 ghost use Rattle.model.specs.Chart.{actionsOf, chartReading};
 ghost use Rattle.model.specs.Rounds.{TargetsRight};
-ghost use Rattle.chart.specs.Shape.{Shaped};
-use crate::fields::label_of;
-use crate::fields::target_of;
+ghost use Rattle.chart_bytes.specs.Shape.{Shaped};
 use answers::Ending;
 use answers::Ran;
+use chart_bytes::fields::label_of;
+use chart_bytes::fields::target_of;
 
 // Writes the label of block 0 and the label after each action, up to the first barred one.
-pub fn walk(c: &[u8], actions: &[u8], labels: &mut [u16]) -> Ran
+pub(crate) fn walk(c: &[u8], actions: &[u8], labels: &mut [u16]) -> Ran
     requires { ⌜ Shaped (now c) ⌝ }
     requires { ⌜ TargetsRight (now c) ⌝ }
     requires { ⌜ ((i : ℕ) → i < length (now actions) → getD (now actions) i 0 < actionsOf (now c)) ⌝ }

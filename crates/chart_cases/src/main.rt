@@ -1,10 +1,8 @@
-// Checks and runs charts at their extremes: each refusal at its first and last possible place, 1 and 255 blocks, the most rounds,
-// runs of 0 to 4,097 actions. Its output is stored.
+// Checks charts at their extremes: each refusal at its first and last possible place, 1 and 255 blocks, the most rounds. Its output is
+// stored.
 ghost use Prim.Native.Nat.{_≤_};
 use text::put;
 use text::put_checked;
-use text::put_labels;
-use text::put_ran;
 
 // The check of the first bytes of c.
 fn show(name: &[u8], c: &[u8], len: usize) {
@@ -155,66 +153,8 @@ fn show_alike(c: &mut [u8; 2600]) {
     show(b"one byte short", c, 2556);
 }
 
-// A run of the first n actions with a buffer of room entries.
-fn run_on(c: &[u8], len: usize, w: &[u8], n: usize, labels: &mut [u16], room: usize) {
-    if len <= c.len() {
-        if n <= w.len() {
-            if room <= labels.len() {
-                put_ran(chart::run(&c[0..len], &w[0..n], &mut labels[0..room]));
-            }
-        }
-    }
-}
-
-// The same, and the buffer's ends afterwards.
-fn show_run(name: &[u8], c: &[u8], len: usize, w: &[u8], n: usize, room: usize) {
-    let mut labels = [7777u16; 4100];
-    put(name);
-    put(b": ");
-    run_on(c, len, w, n, &mut labels, room);
-    put_labels(&labels, 0);
-    put_labels(&labels, 4095);
-}
-
-fn show_runs(c: &mut [u8; 2600], w: &[u8; 4097]) {
-    chain(c, false, 3);
-    show_run(b"no action", c, 16, w, 0, 4100);
-    show_run(b"1 action", c, 16, w, 1, 4100);
-    show_run(b"3 actions, barred", c, 16, w, 3, 4100);
-    show_run(b"3 actions, room for 3", c, 16, w, 3, 3);
-    show_run(b"no action, no room", c, 16, w, 0, 0);
-}
-
-fn show_refused(c: &mut [u8; 2600], w: &mut [u8; 4097]) {
-    changed_run(b"barred at once", c, w, 9, 255);
-    w[0] = 1;
-    show_run(b"first action not below 1", c, 16, w, 3, 1);
-    w[0] = 0;
-    w[4095] = 1;
-    show_run(b"last action not below 1", c, 16, w, 4096, 1);
-    w[4095] = 0;
-    show_run(b"chart one byte short", c, 15, w, 4097, 0);
-}
-
-fn changed_run(name: &[u8], c: &mut [u8; 2600], w: &[u8; 4097], at: usize, v: u8) {
-    header(c, false, 1);
-    poke(c, at, v);
-    show_run(name, c, 10, w, 1, 4100);
-    chain(c, false, 3);
-}
-
-// A ring of two blocks with different labels, for the longest runs.
-fn show_long(c: &mut [u8; 2600], w: &[u8; 4097]) {
-    chain(c, false, 2);
-    target(c, false, 1, 0, 0);
-    show_run(b"4096 actions", c, 13, w, 4096, 4097);
-    show_run(b"4096 actions, room for 4096", c, 13, w, 4096, 4096);
-    show_run(b"4097 actions", c, 13, w, 4097, 4100);
-}
-
 fn main() {
     let mut c = [0u8; 2600];
-    let mut w = [0u8; 4097];
     show_header(&mut c);
     show_counts(&mut c);
     show_named(&mut c);
@@ -222,7 +162,4 @@ fn main() {
     show_single(&mut c);
     show_last(&mut c);
     show_alike(&mut c);
-    show_runs(&mut c, &w);
-    show_refused(&mut c, &mut w);
-    show_long(&mut c, &w);
 }

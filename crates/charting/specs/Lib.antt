@@ -1,6 +1,1 @@
-pub mod Numbers
-pub mod Stored
-pub mod ChartBytes
-pub mod BoxBytes
-pub mod Written
 pub mod Making

@@ -2,26 +2,26 @@
 use mathlib.Core.Path.{_≡_, refl, sym, ap, subst, _∙_}
 use mathlib.Core.Bool.{true, not}
 use mathlib.Core.List.{List}
-use Prim.Native.Nat.{ℕ, _+_, _*_, _≤_, _<_}
+use Prim.Native.Nat.{ℕ, _+_, _*_, _≤_}
 use native.Mathlib.Omega.{arith}
 use lib.Dec.{leb}
 use lib.ListN.{length}
 use lib.IntN.{ℤ}
-use borrow.Author.Tests.{le-leb, lt-leb}
+use borrow.Author.Tests.{le-leb, leb-true}
+use Rattle.integers.specs.LittleEndian.{Bytes}
 use Rattle.answers.specs.declared.Checked.{Checked}
 use Rattle.answers.specs.declared.Checked.the-variants.{Fine, Refused}
-use Rattle.answers.specs.Stages.{andThen, demand, passed, refused, demand-passed, demand-failed}
+use Rattle.answers.specs.Stages.{andThen, demand, passed, refused, then-fine, demand-fine, demand-passed, demand-failed}
 use Rattle.answers.specs.Run.{overwrite}
 use Rattle.model.specs.Sheet.{Sheet}
 use Rattle.model.specs.Blocks.{blocks, tooMany, chartOf, boxListOf}
 use Rattle.refinement.specs.Completed.{completed-blocks, completed-few}
-use Rattle.sheet.specs.declared.Shape.{Shape}
-use Rattle.integers.specs.LittleEndian.{Bytes}
+use Rattle.sheet_bytes.specs.declared.Shape.{Shape}
+use Rattle.sheet_bytes.specs.Three.{shapeOf}
+use Rattle.sheet_bytes.specs.Decode.{decode}
 use Rattle.sheet.specs.Accepted.{stages, accepted}
-use Rattle.sheet.specs.Three.{shapeOf}
 use Rattle.sheet.specs.Check.{sheetCheck}
-use Rattle.sheet.specs.Decode.{decode}
-use Rattle.minimize.specs.Meaning.{Ready}
+use Rattle.tables.specs.Meaning.{Ready}
 use Rattle.minimize.specs.State.{counters-decoded, actions-decoded}
 use Rattle.minimize.specs.declared.Refined.{Refined}
 use Rattle.minimize.specs.declared.Refined.the-variants.{TooMany, Done as Tabled}
@@ -36,10 +36,13 @@ chartSize s = 7 + length (blocks s) * (2 + s .actions)
 unfoldable pub listSize : Sheet → ℕ
 listSize s = length (blocks s) * (1 + 4 * s .counters)
 
--- 9 for more than 255 blocks; 10 for the first short buffer, chart, then list
+-- 10 for the first short buffer, chart, then list, by the lengths needed and those that the buffers have
+unfoldable pub roomsFor : ℕ → ℕ → ℕ → ℕ → Checked
+roomsFor c l chart list = andThen (demand (leb c chart) 10 c) (demand (leb l list) 10 l)
+
+-- 9 for more than 255 blocks, then 10
 unfoldable pub blockChecks : Sheet → ℕ → ℕ → Checked
-blockChecks s chart list =
-    andThen (demand (not (tooMany s)) 9 0) (andThen (demand (leb (chartSize s) chart) 10 (chartSize s)) (demand (leb (listSize s) list) 10 (listSize s)))
+blockChecks s chart list = andThen (demand (not (tooMany s)) 9 0) (roomsFor (chartSize s) (listSize s) chart list)
 
 -- all checks, for buffers of given lengths
 unfoldable pub makeChecks : List ℕ → ℕ → ℕ → Checked
@@ -94,29 +97,24 @@ module _ {s : List ℕ} {shape : Shape} (R : Ready s shape) {c : List ℤ} {h t 
   few-blocks : demand (not (tooMany (decode s))) 9 0 ≡ Fine
   few-blocks = sym (demand-passed (not (tooMany (decode s))) 9 0 (ap not (completed-few (decode s) (R .well) (D .completed))))
 
-  pub chart-short : (z chart list : ℕ) → z ≡ 7 + n * (2 + shape .actions) → chart < z → Refused 10 z ≡ blockChecks (decode s) chart list
+  -- so the rooms are those of its blocks
+  pub rooms-checked : (chart list : ℕ) → roomsFor (7 + n * (2 + shape .actions)) (n * (1 + 4 * shape .counters)) chart list ≡ blockChecks (decode s) chart list
   unfolding blockChecks
-  chart-short z chart list e l =
-      let q : z ≡ chartSize (decode s) = e ∙ chart-size in
-      passed few-blocks (ap (Refused 10) q ∙ refused _ (sym (demand-failed (leb (chartSize (decode s)) chart) 10 (chartSize (decode s)) (lt-leb (chartSize (decode s)) chart (omega arith)))))
-
-  pub list-short : (z chart list : ℕ) → z ≡ n * (1 + 4 * shape .counters) → 7 + n * (2 + shape .actions) ≤ chart → list < z → Refused 10 z ≡ blockChecks (decode s) chart list
-  unfolding blockChecks
-  list-short z chart list e r l =
-      let q : z ≡ listSize (decode s) = e ∙ list-size in
-      let a = chart-size in
+  rooms-checked chart list =
       passed few-blocks
-      (passed (sym (demand-passed (leb (chartSize (decode s)) chart) 10 (chartSize (decode s)) (le-leb (chartSize (decode s)) chart (omega arith))))
-      (ap (Refused 10) q ∙ demand-failed (leb (listSize (decode s)) list) 10 (listSize (decode s)) (lt-leb (listSize (decode s)) list (omega arith))))
+      (ap (λ (k : ℕ). roomsFor k (n * (1 + 4 * shape .counters)) chart list) chart-size ∙ ap (λ (k : ℕ). roomsFor (chartSize (decode s)) k chart list) list-size)
 
-  pub both-fit : (chart list : ℕ) → 7 + n * (2 + shape .actions) ≤ chart → n * (1 + 4 * shape .counters) ≤ list → Fine ≡ blockChecks (decode s) chart list
-  unfolding blockChecks
-  both-fit chart list r l =
-      let a = chart-size in
-      let b = list-size in
-      passed few-blocks
-      (passed (sym (demand-passed (leb (chartSize (decode s)) chart) 10 (chartSize (decode s)) (le-leb (chartSize (decode s)) chart (omega arith))))
-      (demand-passed (leb (listSize (decode s)) list) 10 (listSize (decode s)) (le-leb (listSize (decode s)) list (omega arith))))
+-- rooms that suffice
+pub rooms-pass : (c l chart list : ℕ) → c ≤ chart → l ≤ list → Fine ≡ roomsFor c l chart list
+unfolding roomsFor
+rooms-pass c l chart list h k =
+    passed (sym (demand-passed (leb c chart) 10 c (le-leb c chart h))) (demand-passed (leb l list) 10 l (le-leb l list k))
+
+pub rooms-fit : (c l chart list : ℕ) → roomsFor c l chart list ≡ Fine → (c ≤ chart) × (l ≤ list)
+unfolding roomsFor
+rooms-fit c l chart list e =
+    let (p, q) = then-fine (demand (leb c chart) 10 c) (demand (leb l list) 10 l) e in
+    (leb-true c chart (demand-fine (leb c chart) 10 c p), leb-true l list (demand-fine (leb l list) 10 l q))
 
 -- an accepted sheet is what the refinement is given
 pub accepted-ready : (s : List ℕ) → Bytes s → sheetCheck s ≡ Fine → (shape : Shape) → shape ≡ shapeOf s → Ready s shape
@@ -144,7 +142,3 @@ answered-many (tabled D) q = let z : _≡_ {A = ℕ} 0 1 = cc in absurd (omega a
 pub answered-table : {s : List ℕ} {shape : Shape} {c : List ℤ} {h t : List ℕ} {r : Refined} (n : ℕ) → Answered s shape c h t r → r ≡ Tabled n → Table s shape c h t n
 answered-table n (many e) q = let z : _≡_ {A = ℕ} 0 1 = cc in absurd (omega arith)
 answered-table {s} {shape} {c} {h} {t} n (tabled {n = m} D) q = let e : m ≡ n = cc in subst (Table s shape c h t) e D
-
--- an answer is not both
-pub two-answers : {r : Checked} {n p : ℕ} → r ≡ Fine → r ≡ Refused n p → _≡_ {A = ℕ} 0 1
-two-answers e q = cc

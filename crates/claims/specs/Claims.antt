@@ -1,47 +1,28 @@
--- What is claimed of the running code (the mission's demands 2 and 3). Statements first, then their proofs from the definitions that the contracts cite.
-use mathlib.Core.Path.{_≡_, refl, sym, ap, subst, subst₂, _∙_}
+-- What is claimed of the running code (the mission's demands 2 and 3). Statements alone; Proofs.antt has their proofs. Of one making: s has the sheet's bytes,
+-- m is the answer, chart and list are the lent buffers before the call, chart′ and list′ after it.
+use mathlib.Core.Path.{_≡_}
 use mathlib.Core.Logic.{_↔_}
-use mathlib.Core.Bool.{Bool, true, false, not}
 use mathlib.Core.List.{List}
-use Prim.Native.Nat.{ℕ, _+_, _*_, _≤_}
-use native.Mathlib.Omega.{arith}
-use lib.ListN.{length, take, drop}
-use lib.Seq.{take-at}
-use borrow.Author.Tests.{ltb-false}
-use Rattle.integers.specs.LittleEndian.{Bytes}
-use Rattle.systems.specs.System.{Below}
-use Rattle.answers.specs.declared.Checked.{Checked}
-use Rattle.answers.specs.declared.Checked.the-variants.{Fine, Refused}
-use Rattle.answers.specs.Stages.{demand, passed, then-fine, demand-fine}
-use Rattle.answers.specs.Run.{overwrite, runChecks, ranBy, leftBy}
-use Rattle.model.specs.Sheet.{Sheet, sheetReading}
-use Rattle.model.specs.Blocks.{blocks, tooMany, chartOf, boxListOf}
-use Rattle.model.specs.Chart.{recordAt}
-use Rattle.model.specs.ChartBytes.{chartOf-length}
-use Rattle.model.specs.Theorems.{MinimalReachable, minimal-reachable, ChartRight, chart-right, charts-tell}
-use Rattle.sheet.specs.Layout.{actionsOf}
-use Rattle.sheet.specs.Decode.{decode}
+use Prim.Native.Nat.{ℕ, _+_, _*_, _≤_, _<_}
+use lib.Dec.{T}
+use lib.ListN.{length, getD, take}
+use Rattle.systems.specs.System.{System, Reached, reading, Below}
+use Rattle.systems.specs.Explored.{Many}
+use Rattle.answers.specs.declared.Checked.the-variants.{Fine}
+use Rattle.model.specs.Sheet.{Configuration, inBox, sheetSystem, sheetReading, Covered}
+use Rattle.model.specs.Blocks.{blocks, chartOf, boxListOf}
+use Rattle.model.specs.Chart.{chartSystem}
+use Rattle.model.specs.BoxList.{listedBox}
+use Rattle.model.specs.Theorems.{MinimalReachable, ChartRight}
+use Rattle.sheet_bytes.specs.Layout.{countersOf, actionsOf}
+use Rattle.sheet_bytes.specs.Decode.{decode}
 use Rattle.sheet.specs.Check.{sheetCheck}
-use Rattle.sheet.specs.Accepted.{accepted}
-use Rattle.sheet.specs.RunSheet.{sheetRunCheck, sheetRan, sheetLeft}
+use Rattle.sheet.specs.RunSheet.{sheetRan, sheetLeft}
 use Rattle.chart.specs.Check.{chartCheck}
-use Rattle.chart.specs.OfSheet.{chart-accepted, runs-agree}
 use Rattle.chart.specs.RunChart.{chartRan, chartLeft as runLeft}
 use Rattle.charting.specs.declared.Made.{Made}
-use Rattle.charting.specs.declared.Made.the-variants.{Done}
-use Rattle.charting.specs.Making.{blockChecks, makeChecks, madeBy, writtenBy}
-
--- Demand 3, of the bytes that two makings wrote: the first 7 + N * (2 + A) of each chart buffer are equal, in length and byte by byte, just when both
--- sheets have as many actions and every sequence of these actions, however long, reads the same from the two starts.
-abbrev pub ChartsEqual : ℕ → ℕ → List ℕ → ℕ → ℕ → List ℕ → Type 0
-ChartsEqual n₁ a₁ chart₁ n₂ a₂ chart₂ = take (7 + n₁ * (2 + a₁)) chart₁ ≡ take (7 + n₂ * (2 + a₂)) chart₂
-
-abbrev pub SameBehaviour : List ℕ → List ℕ → Type 0
-SameBehaviour s t = (actionsOf s ≡ actionsOf t) × ((w : List ℕ) → Below (actionsOf s) w → sheetReading (decode s) w ≡ sheetReading (decode t) w)
-
-pub record Demand3 (s t : List ℕ) (m₁ m₂ : Made) (chart₁ chart₂ : List ℕ) : Type 0 where
-  pub equal-charts : (n₁ n₂ : ℕ) → m₁ ≡ Done n₁ → m₂ ≡ Done n₂
-      → ChartsEqual n₁ (actionsOf s) chart₁ n₂ (actionsOf t) chart₂ ↔ SameBehaviour s t
+use Rattle.charting.specs.declared.Made.the-variants.{Done, Refused}
+use Rattle.charting.specs.Making.{makeChecks, madeBy, writtenBy}
 
 -- what a making answers, and what the chart's buffer then holds
 abbrev pub made : List ℕ → List ℕ → List ℕ → Made
@@ -54,113 +35,85 @@ chartLeft s chart list = writtenBy (makeChecks s (length chart) (length list)) (
 abbrev pub listLeft : List ℕ → List ℕ → List ℕ → List ℕ
 listLeft s chart list = writtenBy (makeChecks s (length chart) (length list)) (boxListOf 2 (decode s)) list
 
--- a making that was not refused
-pub record Makes (s : List ℕ) (n : ℕ) : Type 0 where
-  pub count : n ≡ length (blocks (decode s))
-  pub accepts : sheetCheck s ≡ Fine
-  pub few : length (blocks (decode s)) ≤ 255
+-- the sheet's transition system, and how many blocks it has
+abbrev pub systemOf : List ℕ → System Configuration
+systemOf s = sheetSystem (decode s)
 
-made-fine : (c : Checked) (s : Sheet) (n : ℕ) → madeBy c s ≡ Done n → (c ≡ Fine) × (n ≡ length (blocks s))
-unfolding madeBy
-made-fine Fine s n e = (refl, sym same)
-  where
-    same : length (blocks s) ≡ n
-    same = cc
-made-fine (Refused m p) s n e = let z : _≡_ {A = ℕ} 0 1 = cc in absurd (omega arith)
+abbrev pub blockCount : List ℕ → ℕ
+blockCount s = length (blocks (decode s))
 
-makes : (s chart list : List ℕ) (n : ℕ) → made s chart list ≡ Done n → (makeChecks s (length chart) (length list) ≡ Fine) × Makes s n
-unfolding makeChecks blockChecks tooMany
-makes s chart list n e =
-    let (f, k) = made-fine (makeChecks s (length chart) (length list)) (decode s) n e in
-    let (a, r) = then-fine (sheetCheck s) _ f in
-    let (b, q) = then-fine (demand (not (tooMany (decode s))) 9 0) _ r in
-    (f, record { count = k; accepts = a; few = ltb-false 255 (length (blocks (decode s))) (was-false (tooMany (decode s)) (demand-fine _ 9 0 b)) })
-  where
-    was-false : (t : Bool) → not t ≡ true → t ≡ false
-    was-false true d = let z : _≡_ {A = ℕ} 0 1 = cc in absurd (omega arith)
-    was-false false d = refl
+-- how many bytes the chart of n blocks takes
+abbrev pub chartLength : List ℕ → ℕ → ℕ
+chartLength s n = 7 + n * (2 + actionsOf s)
 
--- how long the chart is
-chart-length : (s : List ℕ) (n : ℕ) → n ≡ length (blocks (decode s)) → length (chartOf (decode s)) ≡ 7 + n * (2 + actionsOf s)
-unfolding recordAt decode chartOf
-chart-length s n e = chartOf-length (decode s) ∙ ap (λ (k : ℕ). 7 + k * (2 + actionsOf s)) (sym e)
+-- The buffers suffice for the chart and the list of n blocks.
+pub record Suffices (s : List ℕ) (n : ℕ) (chart list : List ℕ) : Type 0 where
+  pub chart-room : chartLength s n ≤ length chart
+  pub list-room : n * (1 + 4 * countersOf s) ≤ length list
 
--- the front of the chart's buffer is the chart
-pub chart-written : (s chart list : List ℕ) (n : ℕ) → made s chart list ≡ Done n → take (7 + n * (2 + actionsOf s)) (chartLeft s chart list) ≡ chartOf (decode s)
-unfolding writtenBy overwrite
-chart-written s chart list n e =
-    let (f, M) = makes s chart list n e in
-    ap (λ (c : Checked). take (7 + n * (2 + actionsOf s)) (writtenBy c (chartOf (decode s)) chart)) f
-    ∙ take-at (chartOf (decode s)) (drop (length (chartOf (decode s))) chart) (7 + n * (2 + actionsOf s)) (chart-length s n (M .count))
+-- a configuration that the sheet reaches from its start
+abbrev pub ReachedOf : List ℕ → Configuration → Type 0
+ReachedOf s x = Reached (systemOf s) (decode s .start) x
 
--- Demand 2: what was made is accepted by the chart's check, a run on it gives what the run on the sheet gives, for every sequence and buffer, the blocks
--- are those of the minimal reachable graph, and refusal 9 means 256 reached configurations, no two of which read alike.
-pub record Demand2 (s : List ℕ) (m : Made) (chart : List ℕ) : Type 0 where
-  pub chart-accepted : (n : ℕ) → m ≡ Done n → chartCheck (take (7 + n * (2 + actionsOf s)) chart) ≡ Fine
-  pub chart-right : (n : ℕ) → m ≡ Done n → ChartRight (decode s) × (take (7 + n * (2 + actionsOf s)) chart ≡ chartOf (decode s))
+-- every sequence, however long, reads the same from both
+abbrev pub ReadAlike : List ℕ → Configuration → Configuration → Type 0
+ReadAlike s x y = (w : List ℕ) → reading (systemOf s) w x ≡ reading (systemOf s) w y
+
+-- the configuration is in the box that record i of the list holds, two bytes a bound
+abbrev pub InListed : List ℕ → List ℕ → ℕ → Configuration → Type 0
+InListed s list i x = T (inBox (listedBox 2 (countersOf s) list i) x)
+
+-- The boxes in the n records of a list, as read from its bytes.
+pub record BoxesRight (s : List ℕ) (n : ℕ) (chart list : List ℕ) : Type 0 where
+  -- each holds a reached configuration,
+  pub box-reached : (i : ℕ) → i < n → (y : Configuration) × ReachedOf s y × InListed s list i y
+  -- and holds exactly the configurations of regions from which every sequence reads as from that one
+  pub box-exact : (i : ℕ) (x y : Configuration) → i < n → ReachedOf s y → InListed s list i y
+      → InListed s list i x ↔ (Covered (decode s) x × ReadAlike s x y)
+  -- block i of the chart reads so too: record i of the list and record i of the chart speak of one block
+  pub box-of-block : (i : ℕ) (y : Configuration) → i < n → ReachedOf s y → InListed s list i y
+      → (w : List ℕ) → reading (chartSystem (take (chartLength s n) chart)) w i ≡ reading (systemOf s) w y
+  -- every reached configuration is in exactly one box
+  pub one-box : (x : Configuration) → ReachedOf s x
+      → (i : ℕ) × (i < n) × InListed s list i x × ((j : ℕ) → j < n → InListed s list j x → j ≡ i)
+
+-- Demand 2: chart and list are those of the minimal reachable graph, and more than 255 blocks are the only ground for refusing an accepted sheet in
+-- buffers that suffice.
+pub record Demand2 (s : List ℕ) (m : Made) (chart list chart′ list′ : List ℕ) : Type 0 where
+  -- the chart that was made is accepted by the chart's check and is the chart of the sheet,
+  pub chart-accepted : (n : ℕ) → m ≡ Done n → chartCheck (take (chartLength s n) chart′) ≡ Fine
+  pub chart-right : (n : ℕ) → m ≡ Done n → ChartRight (decode s) × (take (chartLength s n) chart′ ≡ chartOf (decode s))
+  -- and a run on it gives what the run on the sheet gives, for every sequence and buffer
   pub runs-alike : (n : ℕ) → m ≡ Done n → (w labels : List ℕ)
-      → (chartRan (take (7 + n * (2 + actionsOf s)) chart) w (length labels) ≡ sheetRan s w (length labels))
-      × (runLeft (take (7 + n * (2 + actionsOf s)) chart) w labels ≡ sheetLeft s w labels)
+      → (chartRan (take (chartLength s n) chart′) w (length labels) ≡ sheetRan s w (length labels))
+      × (runLeft (take (chartLength s n) chart′) w labels ≡ sheetLeft s w labels)
+  -- the listed boxes are the classes that are reached
+  pub boxes-right : (n : ℕ) → m ≡ Done n → BoxesRight s n chart′ list′
+  -- the blocks are those of the minimal reachable graph
   pub blocks-minimal : sheetCheck s ≡ Fine → MinimalReachable (decode s)
+  -- an accepted sheet with at most 255 blocks is made in buffers that suffice for them, and the answer is their number;
+  pub made-few : sheetCheck s ≡ Fine → blockCount s ≤ 255 → Suffices s (blockCount s) chart list → m ≡ Done (blockCount s)
+  -- nothing else is made
+  pub made-only : (n : ℕ) → m ≡ Done n → (n ≡ blockCount s) × (sheetCheck s ≡ Fine) × (blockCount s ≤ 255) × Suffices s (blockCount s) chart list
+  -- an accepted sheet that is refused though the buffers suffice is refused 9, which asks nothing of the buffers, and then there are 256 reached
+  -- configurations, no two of which read alike
+  pub only-ground : sheetCheck s ≡ Fine → (blockCount s ≤ 255 → Suffices s (blockCount s) chart list) → (number returned : ℕ) → m ≡ Refused number returned
+      → (number ≡ 9) × (returned ≡ 0) × Many (systemOf s) (decode s .start) 256
+  -- any refusal leaves both buffers as they were
+  pub refused-unchanged : (number returned : ℕ) → m ≡ Refused number returned → (chart′ ≡ chart) × (list′ ≡ list)
 
--- a run on the sheet that was accepted
-run-read : (s w : List ℕ) (k : ℕ) → sheetCheck s ≡ Fine → runChecks (actionsOf s) w k ≡ sheetRunCheck s w k
-unfolding sheetRunCheck
-run-read s w k a = passed a refl
+-- the bytes of a chart of n₁ blocks and of one of n₂, at the front of their buffers, are equal in length and byte by byte
+abbrev pub ChartsEqual : List ℕ → ℕ → List ℕ → List ℕ → ℕ → List ℕ → Type 0
+ChartsEqual s n₁ chart₁ t n₂ chart₂ = (chartLength s n₁ ≡ chartLength t n₂) × ((k : ℕ) → k < chartLength s n₁ → getD chart₁ k 0 ≡ getD chart₂ k 0)
 
-runs-of : (s : List ℕ) → Bytes s → sheetCheck s ≡ Fine → length (blocks (decode s)) ≤ 255 → (w labels : List ℕ)
-    → (chartRan (chartOf (decode s)) w (length labels) ≡ sheetRan s w (length labels)) × (runLeft (chartOf (decode s)) w labels ≡ sheetLeft s w labels)
-unfolding sheetRan sheetLeft decode
-runs-of s B a few w labels =
-    let (p, q) = runs-agree (decode s) (accepted s B a) few w labels in
-    let e = run-read s w (length labels) a in
-    (sym p ∙ ap (λ (c : Checked). ranBy c (sheetReading (decode s) w)) e, sym q ∙ ap (λ (c : Checked). leftBy c (sheetReading (decode s) w) labels) e)
+-- both sheets have as many actions, and every sequence of these actions, however long, reads the same from the two starts
+abbrev pub SameBehaviour : List ℕ → List ℕ → Type 0
+SameBehaviour s t = (actionsOf s ≡ actionsOf t) × ((w : List ℕ) → Below (actionsOf s) w → sheetReading (decode s) w ≡ sheetReading (decode t) w)
 
-pub demand-2 : (s chart list : List ℕ) → Bytes s → Demand2 s (made s chart list) (chartLeft s chart list)
-demand-2 s chart list B =
-    record {
-      chart-accepted = λ n e.
-          let M = makes s chart list n e .1 in
-          subst (λ (c : List ℕ). chartCheck c ≡ Fine) (sym (chart-written s chart list n e)) (chart-accepted (decode s) (accepted s B (M .accepts)) (M .few));
-      chart-right = λ n e.
-          let M = makes s chart list n e .1 in
-          (chart-right (decode s) (accepted s B (M .accepts)) (M .few), chart-written s chart list n e);
-      runs-alike = λ n e w labels.
-          let M = makes s chart list n e .1 in
-          subst
-          (λ (c : List ℕ). (chartRan c w (length labels) ≡ sheetRan s w (length labels)) × (runLeft c w labels ≡ sheetLeft s w labels))
-          (sym (chart-written s chart list n e))
-          (runs-of s B (M .accepts) (M .few) w labels);
-      blocks-minimal = λ a. minimal-reachable (decode s) (accepted s B a);
-    }
-
-pub demand-3 : (s t chart₁ list₁ chart₂ list₂ : List ℕ) → Bytes s → Bytes t
-    → Demand3 s t (made s chart₁ list₁) (made t chart₂ list₂) (chartLeft s chart₁ list₁) (chartLeft t chart₂ list₂)
-unfolding decode
-demand-3 s t chart₁ list₁ chart₂ list₂ B D = record { equal-charts = λ n₁ n₂ p q. both n₁ n₂ p q }
-  where
-    both : (n₁ n₂ : ℕ) → made s chart₁ list₁ ≡ Done n₁ → made t chart₂ list₂ ≡ Done n₂
-        → ChartsEqual n₁ (actionsOf s) (chartLeft s chart₁ list₁) n₂ (actionsOf t) (chartLeft t chart₂ list₂) ↔ SameBehaviour s t
-    both n₁ n₂ p q =
-        let M = makes s chart₁ list₁ n₁ p .1 in
-        let N = makes t chart₂ list₂ n₂ q .1 in
-        let a = chart-written s chart₁ list₁ n₁ p in
-        let b = chart-written t chart₂ list₂ n₂ q in
-        let k = charts-tell (decode s) (decode t) (accepted s B (M .accepts)) (accepted t D (N .accepts)) (M .few) (N .few) in
-        (λ e. k .0 (sym a ∙ e ∙ b), λ h. a ∙ k .1 h ∙ sym b)
-
--- the same of answers and buffers that are what the contracts say
-pub demand-2-of : (s chart list : List ℕ) {m : Made} {c : List ℕ} → Bytes s → m ≡ made s chart list → c ≡ chartLeft s chart list → Demand2 s m c
-demand-2-of s chart list B p u = subst₂ (Demand2 s) (sym p) (sym u) (demand-2 s chart list B)
-
-pub demand-3-of : (s t chart₁ list₁ chart₂ list₂ : List ℕ) {m₁ m₂ : Made} {c₁ c₂ : List ℕ} → Bytes s → Bytes t → m₁ ≡ made s chart₁ list₁ → m₂ ≡ made t chart₂ list₂
-    → c₁ ≡ chartLeft s chart₁ list₁ → c₂ ≡ chartLeft t chart₂ list₂ → Demand3 s t m₁ m₂ c₁ c₂
-demand-3-of s t chart₁ list₁ chart₂ list₂ {m₁} {m₂} {c₁} {c₂} B D p q u v =
-    let d = demand-3 s t chart₁ list₁ chart₂ list₂ B D in
-    record {
-      equal-charts = λ n₁ n₂ e f.
-          let k = d .equal-charts n₁ n₂ (sym p ∙ e) (sym q ∙ f) in
-          let x = ap (take (7 + n₁ * (2 + actionsOf s))) u in
-          let y = ap (take (7 + n₂ * (2 + actionsOf t))) v in
-          (λ g. k .0 (sym x ∙ g ∙ y), λ h. x ∙ k .1 h ∙ sym y);
-    }
+-- Demand 3, of two makings: accepted sheets with at most 255 blocks each, in buffers that suffice, whatever these held, are both made, and the chart bytes
+-- are equal just when the sheets behave alike.
+pub record Demand3 (s t : List ℕ) (m₁ m₂ : Made) (chart₁ list₁ chart₂ list₂ chart₁′ chart₂′ : List ℕ) : Type 0 where
+  pub equal-charts : sheetCheck s ≡ Fine → sheetCheck t ≡ Fine
+      → blockCount s ≤ 255 → blockCount t ≤ 255
+      → Suffices s (blockCount s) chart₁ list₁ → Suffices t (blockCount t) chart₂ list₂
+      → (m₁ ≡ Done (blockCount s)) × (m₂ ≡ Done (blockCount t)) × (ChartsEqual s (blockCount s) chart₁′ t (blockCount t) chart₂′ ↔ SameBehaviour s t)

@@ -1,4 +1,5 @@
 // Two makings of charts, and what is claimed of them (demands 2 and 3). The statements stand in specs/Claims.antt.
+// Public: no function asks anything of its caller, and each contract gives the answer as a definition does.
 ghost use mathlib.Core.Path.{_≡_};
 ghost use Rattle.claims.specs.Claims.{Demand2, Demand3, made, chartLeft, listLeft};
 use charting::Made;
@@ -10,8 +11,8 @@ pub struct TwoMade {
     pub second: Made,
 }
 
-// Makes the charts of two sheets, the first in the first two buffers. Each is the minimal reachable graph of its sheet, and where both were
-// made, the chart bytes are equal just when the sheets behave alike.
+// Makes the charts of two sheets, the first in the first two buffers. Of each: its chart and list are those of the minimal reachable graph, and in buffers
+// that suffice an accepted sheet is refused for more than 255 blocks alone. Of both: the chart bytes are equal just when the sheets behave alike.
 pub fn make_two(
     first: &[u8],
     second: &[u8],
@@ -20,8 +21,9 @@ pub fn make_two(
     second_chart: &mut [u8],
     second_list: &mut [u8],
 ) -> TwoMade
-    ensures { λ r. ⌜ Demand3 (now (first .entry)) (now (second .entry)) (r .first) (r .second) (now («first_chart» .exit)) (now («second_chart» .exit)) ⌝ }
-    ensures { λ r. ⌜ Demand2 (now (first .entry)) (r .first) (now («first_chart» .exit)) × Demand2 (now (second .entry)) (r .second) (now («second_chart» .exit)) ⌝ }
+    ensures { λ r. ⌜ Demand3 (now (first .entry)) (now (second .entry)) (r .first) (r .second) (now («first_chart» .entry)) (now («first_list» .entry)) (now («second_chart» .entry)) (now («second_list» .entry)) (now («first_chart» .exit)) (now («second_chart» .exit)) ⌝ }
+    ensures { λ r. ⌜ Demand2 (now (first .entry)) (r .first) (now («first_chart» .entry)) (now («first_list» .entry)) (now («first_chart» .exit)) (now («first_list» .exit)) ⌝ }
+    ensures { λ r. ⌜ Demand2 (now (second .entry)) (r .second) (now («second_chart» .entry)) (now («second_list» .entry)) (now («second_chart» .exit)) (now («second_list» .exit)) ⌝ }
     ensures { λ r. ⌜ r .first ≡ made (now (first .entry)) (now («first_chart» .entry)) (now («first_list» .entry)) ⌝ }
     ensures { λ _. ⌜ now («first_chart» .exit) ≡ chartLeft (now (first .entry)) (now («first_chart» .entry)) (now («first_list» .entry)) ⌝ }
     ensures { λ _. ⌜ now («first_list» .exit) ≡ listLeft (now (first .entry)) (now («first_chart» .entry)) (now («first_list» .entry)) ⌝ }

@@ -1,19 +1,19 @@
 -- Little-endian numbers in a list of bytes (document 01: "Numbers wider than a byte are little-endian, signed ones in two's complement"):
 -- definitions, and the laws that callers use in their place.
-use mathlib.Core.Path.{_≡_, refl, sym, ap, _∙_}
+use mathlib.Core.Path.{_≡_, refl, sym, ap, subst, _∙_}
 use mathlib.Core.List.{List, [], _∷_, _++_}
-use mathlib.Core.Bool.{cond}
+use mathlib.Core.Bool.{Bool, true, false, cond}
 use Prim.Native.Nat.{ℕ, zero, suc, _+_, _*_, _-_, _/_, _%_, _^_, _≤_, _<_}
 use native.Mathlib.Nat.{pow-suc, mod-one, mod-lt, mod-eq-of-lt, one-le-pow, not-suc-le-zero, le-of-suc-le-suc, add-zero}
 use native.Mathlib.Omega.{arith}
-use borrow.Author.Tests.{lt-ltb, le-ltb}
+use borrow.Author.Tests.{lt-ltb, le-ltb, ltb-true, ltb-false}
 use lib.Arith.{mod-mul}
 use lib.Dec.{ltb}
 use lib.ListN.{length, getD, take, drop}
-use lib.Seq.{drop-drop, drop-append-add}
+use lib.Seq.{drop-drop, drop-append-add, getD-drop}
 use lib.IntN.{ℤ, pos, negsuc, negℤ, _-ℤ_}
 use lib.Signed.{_≤ℤ_, _<ℤ_}
-use Rattle.integers.specs.Order.{up, dn, le-in, lt-in, eq-out, sub-parts, up-neg, dn-neg}
+use Rattle.integers.specs.Order.{up, dn, le-in, le-out, lt-in, lt-out, eq-out, sub-parts, up-neg, dn-neg}
 
 -- the number that the first n bytes of a list give, the lowest first
 unfoldable pub joined : ℕ → List ℕ → ℕ
@@ -57,6 +57,9 @@ pub bytes-append : (l m : List ℕ) → Bytes l → Bytes m → Bytes (l ++ m)
 bytes-append [] m b c i = c i
 bytes-append (x ∷ l) m b c zero = b 0
 bytes-append (x ∷ l) m b c (suc i) = bytes-append l m (λ j. b (suc j)) c i
+
+pub bytes-drop : (s : List ℕ) (at : ℕ) → Bytes s → Bytes (drop at s)
+bytes-drop s at b i = rw (getD-drop at s i 0) (b (at + i))
 
 -- n bytes hold z in two's complement
 pub record Holds (n : ℕ) (z : ℤ) : Type 0 where
@@ -176,3 +179,33 @@ signedOf-bitsOf n (negsuc u) g h =
 pub signedAt-split : (n : ℕ) (z : ℤ) (front rest : List ℕ) → 1 ≤ n → Holds n z → signedAt n (front ++ (split n (bitsOf n z) ++ rest)) (length front) ≡ z
 unfolding signedAt
 signedAt-split n z front rest g h = ap (signedOf n) (unsignedAt-split n (bitsOf n z) front rest (bitsOf-lt n z g h)) ∙ signedOf-bitsOf n z g h
+
+-- the signed number of n bytes is one that n bytes hold
+pub signed-held : (n : ℕ) (s : List ℕ) (at : ℕ) → 1 ≤ n → Bytes s → Holds n (signedAt n s at)
+unfolding signedAt unsignedAt signedOf
+signed-held n s at g b = pick (ltb u h) refl
+  where
+    h : ℕ
+    h = 2 ^ (8 * n - 1)
+
+    u : ℕ
+    u = joined n (drop at s)
+
+    few : u < 2 ^ (8 * n)
+    few = subst (λ (k : ℕ). u < k) (pow-bytes n) (joined-lt n (drop at s) (bytes-drop s at b))
+
+    upper : (z : ℤ) → up z + (0 + 2 ^ (8 * n)) ≡ dn z + (u + 0) → h ≤ u → Holds n z
+    upper (pos k) e l = absurd (omega (arith, few))
+    upper (negsuc k) e l =
+        record {
+          above = le-out (negℤ (pos h)) (negsuc k) (omega (arith, halves n g, pow-bytes n, up-neg (pos h), dn-neg (pos h)));
+          below = lt-out (negsuc k) (pos h) (omega arith);
+        }
+
+    pick : (t : Bool) → ltb u h ≡ t → Holds n (cond t (pos u) (pos u -ℤ pos (2 ^ (8 * n))))
+    pick true e =
+        record {
+          above = le-out (negℤ (pos h)) (pos u) (omega (arith, up-neg (pos h), dn-neg (pos h)));
+          below = lt-out (pos u) (pos h) (omega (arith, ltb-true u h e));
+        }
+    pick false e = upper (pos u -ℤ pos (2 ^ (8 * n))) (sub-parts (pos u) (pos (2 ^ (8 * n)))) (ltb-false u h e)

@@ -95,19 +95,28 @@ ceiling-machine n f = rw (zero-minus n, zero-minus (floor (negℤ n) f)) refl
 pub floor-within : {k : ℕ} (n f : ℤ) → Within k n → Within k (floor n f)
 floor-within {k} n f w = within-out k (floor n f) (omega (arith, floor-size n f, within-size w))
 
--- the inverse by its two ends
-pub inverse-up : (f b : ℤ) (r : Range) (l h : ℤ) → ltZ (pos 0) f ≡ true → l ≡ ceiling (r .low -ℤ b) f → h ≡ floor (r .high -ℤ b) f
-    → _≡_ {A = Range} (record { low = l; high = h }) (inverse f b r)
-unfolding inverse
-inverse-up (pos f) b r l h e p q = λ i. record { low = p i; high = q i }
-inverse-up (negsuc f) b r l h e p q = false-true e
+-- the whole x with c ≤ f * x ≤ d
+unfoldable pub inward : ℤ → ℤ → ℤ → Range
+inward (pos m) c d = record { low = ceiling c (pos m); high = floor d (pos m) }
+inward (negsuc m) c d = record { low = ceiling d (negsuc m); high = floor c (negsuc m) }
 
-pub inverse-down : (f b : ℤ) (r : Range) (l h : ℤ) → ltZ (pos 0) f ≡ false → (f ≡ pos 0 → ⊥) → l ≡ ceiling (r .high -ℤ b) f → h ≡ floor (r .low -ℤ b) f
-    → _≡_ {A = Range} (record { low = l; high = h }) (inverse f b r)
-unfolding inverse
-inverse-down (pos zero) b r l h e n p q = absurd (n refl)
-inverse-down (pos (suc f)) b r l h e n p q = absurd (omega (arith, ltZ-false (pos 0) (pos (suc f)) e))
-inverse-down (negsuc f) b r l h e n p q = λ i. record { low = p i; high = q i }
+pub inverse-inward : (f b : ℤ) (r : Range) → inward f (r .low -ℤ b) (r .high -ℤ b) ≡ inverse f b r
+unfolding inverse inward
+inverse-inward (pos m) b r = refl
+inverse-inward (negsuc m) b r = refl
+
+-- by its two ends
+pub inward-up : (f c d l h : ℤ) → ltZ (pos 0) f ≡ true → l ≡ ceiling c f → h ≡ floor d f → _≡_ {A = Range} (record { low = l; high = h }) (inward f c d)
+unfolding inward
+inward-up (pos f) c d l h e p q = λ i. record { low = p i; high = q i }
+inward-up (negsuc f) c d l h e p q = false-true e
+
+pub inward-down : (f c d l h : ℤ) → ltZ (pos 0) f ≡ false → (f ≡ pos 0 → ⊥) → l ≡ ceiling d f → h ≡ floor c f
+    → _≡_ {A = Range} (record { low = l; high = h }) (inward f c d)
+unfolding inward
+inward-down (pos zero) c d l h e n p q = absurd (n refl)
+inward-down (pos (suc f)) c d l h e n p q = absurd (omega (arith, ltZ-false (pos 0) (pos (suc f)) e))
+inward-down (negsuc f) c d l h e n p q = λ i. record { low = p i; high = q i }
 
 -- a bound less an offset
 pub offset-within : {z b : ℤ} → Within 1000000 z → Within 200000000 b → Within 1000000000 (z -ℤ b)

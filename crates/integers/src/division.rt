@@ -5,6 +5,7 @@ ghost use lib.Signed.{_<ℤ_};
 ghost use Rattle.integers.specs.Range.{Within, RangeWithin};
 ghost use Rattle.integers.specs.Division.{floor, ceiling};
 ghost use Rattle.integers.specs.Inverse.{inverse};
+ghost use Rattle.integers.specs.Quotient.{inward};
 use crate::Range;
 
 // n / m rounded down, for m above 0. Only a number that is not negative is ever divided.
@@ -38,15 +39,12 @@ pub fn divide_up(n: i64, f: i64) -> i64
     -divide_down(-n, f)
 }
 
-// The old values that factor f and offset b take into the wanted range, rounded inward.
-pub fn inverse_range(f: i64, b: i64, wanted: Range) -> Range
+// The whole x with c ≤ f * x ≤ d: rounded up at one end and down at the other.
+fn rounded_inward(f: i64, c: i64, d: i64) -> Range
     requires { ⌜ (f ≡ pos 0 → ⊥) × Within 100 f ⌝ }
-    requires { ⌜ Within 200000000 b ⌝ }
-    requires { ⌜ RangeWithin 1000000 wanted ⌝ }
-    ensures { λ r. ⌜ r ≡ inverse f b wanted ⌝ }
+    requires { ⌜ Within 1000000000 c × Within 1000000000 d ⌝ }
+    ensures { λ r. ⌜ r ≡ inward f c d ⌝ }
 {
-    let c = wanted.low - b;
-    let d = wanted.high - b;
     if f > 0 {
         Range {
             low: divide_up(c, f),
@@ -58,4 +56,14 @@ pub fn inverse_range(f: i64, b: i64, wanted: Range) -> Range
             high: divide_down(c, f),
         }
     }
+}
+
+// The old values that factor f and offset b take into the wanted range, rounded inward.
+pub fn inverse_range(f: i64, b: i64, wanted: Range) -> Range
+    requires { ⌜ (f ≡ pos 0 → ⊥) × Within 100 f ⌝ }
+    requires { ⌜ Within 200000000 b ⌝ }
+    requires { ⌜ RangeWithin 1000000 wanted ⌝ }
+    ensures { λ r. ⌜ r ≡ inverse f b wanted ⌝ }
+{
+    rounded_inward(f, wanted.low - b, wanted.high - b)
 }

@@ -1,5 +1,5 @@
 // Whole numbers: division rounded up and down, the inverse of a carry rule, ranges, little-endian numbers in bytes.
-// Every function here is called by sister crates alone: it asks what it needs, and its callers have refused the rest.
+// Internal: serves sister crates; a function may ask what its callers have made sure of.
 pub mod bytes;
 pub mod division;
 pub mod ranges;

@@ -1,7 +1,5 @@
-pub mod Arrays
-pub mod Meaning
 pub mod Padding
 pub mod State
-pub mod Cutting
+pub mod Settling
 pub mod Steps
 pub mod Passes

@@ -18,16 +18,16 @@ use Rattle.model.specs.declared.Rule.the-variants.{Set, Carry}
 use Rattle.model.specs.Sheet.{within, applied, updated, RuleFits, carry-fits, RangeFits, Each, each-more}
 use Rattle.model.specs.Blocks.{empty, emptied, cut, cuts}
 use Rattle.model.specs.Boxes.{within-cons}
-use Rattle.sheet.specs.declared.Ranges.{Ranges}
-use Rattle.sheet.specs.declared.Values.{Values}
-use Rattle.sheet.specs.declared.Config.{Config}
-use Rattle.sheet.specs.declared.Rules.{Rules}
-use Rattle.sheet.specs.declared.RegionMove.{RegionMove}
-use Rattle.sheet.specs.Layout.{countersOf}
-use Rattle.sheet.specs.Three.{firsts, rangesMeant, valuesMeant, rulesMeant, padded-out, zeroRange, zeroRule, boxThree, startThree, moveThree}
-use Rattle.sheet.specs.Space.{RulesSafe, ValuesWithin, fits-safe, landThree, allThree}
-use Rattle.sheet.specs.Cuts.{emptyThree, narrowThree, cutThree, cutsThree}
-use Rattle.sheet.specs.Bounded.{RangesWithin, RulesFit}
+use Rattle.sheet_bytes.specs.declared.Ranges.{Ranges}
+use Rattle.sheet_bytes.specs.declared.Values.{Values}
+use Rattle.sheet_bytes.specs.declared.Config.{Config}
+use Rattle.sheet_bytes.specs.declared.Rules.{Rules}
+use Rattle.sheet_bytes.specs.declared.RegionMove.{RegionMove}
+use Rattle.sheet_bytes.specs.Layout.{countersOf}
+use Rattle.sheet_bytes.specs.Three.{firsts, rangesMeant, valuesMeant, rulesMeant, padded-out, zeroRange, zeroRule, boxThree, startThree, moveThree}
+use Rattle.sheet_bytes.specs.Space.{RulesSafe, ValuesWithin, fits-safe, landThree, allThree}
+use Rattle.sheet_bytes.specs.Cuts.{emptyThree, narrowThree, cutThree, cutsThree}
+use Rattle.sheet_bytes.specs.Bounds.{RangesWithin, RulesFit}
 
 pub record PaddedValues (V# : ℕ) (x : Values) : Type 0 where
   pub second-zero : V# ≤ 1 → x .second ≡ pos 0

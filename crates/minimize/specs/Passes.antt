@@ -10,12 +10,11 @@ use lib.IntN.{ℤ}
 use Rattle.model.specs.Blocks.{tooMany}
 use Rattle.refinement.specs.Depth.{Shrunk, follows-before, follows-inside, deep-zero, deep-shrunk, deep-follows}
 use Rattle.refinement.specs.SheetTable.{sheetFrame, sheet-framed}
-use Rattle.refinement.specs.Potential.{measure}
 use Rattle.refinement.specs.Loop.{down-follows}
-use Rattle.sheet.specs.declared.Shape.{Shape}
-use Rattle.sheet.specs.Decode.{decode}
-use Rattle.minimize.specs.Arrays.{flagIn}
-use Rattle.minimize.specs.Meaning.{Ready, rowIn}
+use Rattle.sheet_bytes.specs.declared.Shape.{Shape}
+use Rattle.sheet_bytes.specs.Decode.{decode}
+use Rattle.tables.specs.Arrays.{flagIn}
+use Rattle.tables.specs.Meaning.{Ready, rowIn}
 use Rattle.minimize.specs.State.{State, actions-decoded}
 use Rattle.minimize.specs.Steps.{DeepIn, FollowsIn, Changed, changed-none, changed-trans, measureIn, Turned}
 

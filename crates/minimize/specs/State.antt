@@ -23,23 +23,22 @@ use Rattle.refinement.specs.SheetTable.{Row, sheetFrame, Completed, moveAt, reg
 use Rattle.refinement.specs.Potential.{Falling}
 use Rattle.refinement.specs.Depth.{AllDeep}
 use Rattle.refinement.specs.Loop.{Advance, advance-cut, advance-barred, working-deep, Working, rowsPotential, working-first, working-begin, working-barred, working-same, working-cut, working-append, landed, working-end, working-done, working-many}
-use Rattle.sheet.specs.declared.Shape.{Shape}
-use Rattle.sheet.specs.declared.Ranges.{Ranges}
-use Rattle.sheet.specs.declared.Values.{Values}
-use Rattle.sheet.specs.declared.Config.{Config}
-use Rattle.sheet.specs.declared.Move as Kind
-use Rattle.sheet.specs.declared.Move.the-variants.{Barred, Open}
-use Rattle.sheet.specs.declared.RegionMove.{RegionMove}
-use Rattle.sheet.specs.Layout.{movePart}
-use Rattle.sheet.specs.Decode.{decode, ruleAt}
-use Rattle.sheet.specs.Three.{rangesMeant, valuesMeant, rulesMeant, boxMeant, configMeant, moveMeant, moveOfKind, moveThree, boxThree, startThree, start-meant, firsts-padded, zeroRule}
-use Rattle.sheet.specs.Space.{ValuesWithin, landThree, land-meant}
-use Rattle.sheet.specs.Cuts.{cutsThree}
-use Rattle.sheet.specs.Bounded.{RangesWithin, RulesFit, rules-fit}
-use Rattle.minimize.specs.Arrays.{CellsRoom, HomesRoom, TargetsRoom, FlagsRoom, valuesIn, rangesIn, regionIn, stateIn, configIn, boxIn, targetIn, flagIn, putRanges, putValues}
-use Rattle.minimize.specs.Arrays.{putRanges-length, putValues-length, putHome-length, ranges-same, ranges-other, values-kept, values-same, values-other, ranges-kept, region-same, state-same as home-same, region-other, state-other}
+use Rattle.sheet_bytes.specs.declared.Shape.{Shape}
+use Rattle.sheet_bytes.specs.declared.Ranges.{Ranges}
+use Rattle.sheet_bytes.specs.declared.Values.{Values}
+use Rattle.sheet_bytes.specs.declared.Config.{Config}
+use Rattle.sheet_bytes.specs.declared.Move as Kind
+use Rattle.sheet_bytes.specs.declared.Move.the-variants.{Barred, Open}
+use Rattle.sheet_bytes.specs.declared.RegionMove.{RegionMove}
+use Rattle.sheet_bytes.specs.Layout.{movePart}
+use Rattle.sheet_bytes.specs.Decode.{decode, ruleAt}
+use Rattle.sheet_bytes.specs.Three.{rangesMeant, valuesMeant, rulesMeant, boxMeant, configMeant, moveMeant, moveOfKind, moveThree, boxThree, startThree, start-meant, firsts-padded, zeroRule}
+use Rattle.sheet_bytes.specs.Space.{ValuesWithin, landThree, land-meant}
+use Rattle.sheet_bytes.specs.Cuts.{cutsThree}
+use Rattle.sheet_bytes.specs.Bounds.{RangesWithin, RulesFit, rules-fit}
+use Rattle.tables.specs.Arrays.{CellsRoom, HomesRoom, TargetsRoom, FlagsRoom, valuesIn, rangesIn, regionIn, stateIn, configIn, boxIn, targetIn, flagIn, putRanges, putValues, putRanges-length, putValues-length, putHome-length, ranges-same, ranges-other, values-kept, values-same, values-other, ranges-kept, region-same, state-same as home-same, region-other, state-other}
+use Rattle.tables.specs.Meaning.{Ready, rowIn, holdsIn, moveIn, move-in, box-in, covered-few, newCells, newHomes}
 use Rattle.minimize.specs.Padding.{PaddedValues, PaddedRanges, PaddedRules, box-padded, start-padded, move-padded, land-padded, padded-same, ranges-within, values-within, cuts-meant, cuts-padded}
-use Rattle.minimize.specs.Meaning.{Ready, rowIn, holdsIn, moveIn, move-in, box-in, covered-few, newCells, newHomes}
 
 -- The arrays hold a state of the refinement loop: n rows, row i in work with the actions below a behind it (none in work where i is 255).
 pub record State (s : List ℕ) (shape : Shape) (c : List ℤ) (h t f : List ℕ) (n i a : ℕ) : Type 0 where

@@ -15,20 +15,21 @@ use Rattle.refinement.specs.Depth.{Shrunk, Follows, AllDeep, shrunk-refl, shrun
 use Rattle.refinement.specs.SheetTable.{sheetFrame, sheet-framed, Completed}
 use Rattle.refinement.specs.Potential.{falling-refl, falling-less, falling-trans, measure, measure-turn}
 use Rattle.refinement.specs.Loop.{Advance, rowsPotential}
-use Rattle.sheet.specs.declared.Shape.{Shape}
-use Rattle.sheet.specs.declared.Config.{Config}
-use Rattle.sheet.specs.declared.Move.the-variants.{Barred}
-use Rattle.sheet.specs.declared.RegionMove.{RegionMove}
-use Rattle.sheet.specs.Decode.{decode}
-use Rattle.sheet.specs.Three.{configMeant, startThree}
-use Rattle.sheet.specs.Space.{ValuesWithin, landThree}
-use Rattle.sheet.specs.Bounded.{RangesWithin}
+use Rattle.sheet_bytes.specs.declared.Shape.{Shape}
+use Rattle.sheet_bytes.specs.declared.Config.{Config}
+use Rattle.sheet_bytes.specs.declared.Move.the-variants.{Barred}
+use Rattle.sheet_bytes.specs.declared.RegionMove.{RegionMove}
+use Rattle.sheet_bytes.specs.Decode.{decode}
+use Rattle.sheet_bytes.specs.Three.{configMeant, startThree}
+use Rattle.sheet_bytes.specs.Space.{ValuesWithin, landThree}
+use Rattle.sheet_bytes.specs.Bounds.{RangesWithin}
+use Rattle.tables.specs.Arrays.{CellsRoom, HomesRoom, TargetsRoom, FlagsRoom, configIn, rangesIn, regionIn, targetIn, flagIn, LastRaised}
+use Rattle.tables.specs.Meaning.{Ready, rowIn, holdsIn, Found, moveIn, newCells, newHomes}
+use Rattle.tables.specs.Cutting.{Settled}
 use Rattle.minimize.specs.declared.Refined.{Refined}
 use Rattle.minimize.specs.declared.Refined.the-variants.{TooMany, Done}
-use Rattle.minimize.specs.Arrays.{CellsRoom, HomesRoom, TargetsRoom, FlagsRoom, configIn, rangesIn, regionIn, targetIn, flagIn, LastRaised}
-use Rattle.minimize.specs.Meaning.{Ready, rowIn, holdsIn, Found, moveIn, newCells, newHomes}
 use Rattle.minimize.specs.State.{State, Fell, OpenAt, state-append, state-deep, advance-stopped, open-new, landed-new, state-many, state-end, state-done, state-first, start-covered, state-barred, barred-at, ranges-bounded, values-bounded, landing-covered}
-use Rattle.minimize.specs.Cutting.{Settled, state-settled, advance-settled}
+use Rattle.minimize.specs.Settling.{state-settled, advance-settled}
 
 -- the rows of the arrays are k deep
 abbrev pub DeepIn : List ℕ → Shape → List ℤ → List ℕ → ℕ → ℕ → Type 0

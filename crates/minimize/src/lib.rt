@@ -1,9 +1,5 @@
 // From an accepted sheet to its blocks: representatives with shrinking boxes, in flat arrays that the caller lends.
-pub mod cutting;
-pub mod growth;
-pub mod marks;
-pub mod rows;
-pub mod search;
+// Internal: serves sister crates; a function may ask what its callers have made sure of.
 pub mod steps;
 pub mod table;
 

@@ -1,18 +1,18 @@
 // One action of a row, and the turn of a row.
 ghost use Prim.Native.Nat.{_+_, _<_};
-ghost use Rattle.minimize.specs.Arrays.{flagIn};
-ghost use Rattle.minimize.specs.Meaning.{Ready};
+ghost use Rattle.tables.specs.Arrays.{flagIn};
+ghost use Rattle.tables.specs.Meaning.{Ready};
 ghost use Rattle.minimize.specs.State.{State, OpenAt};
 ghost use Rattle.minimize.specs.Steps.{Outcome, Turned};
-use crate::cutting::settle;
-use crate::growth::append;
-use crate::rows::config_in;
-use crate::search::find;
-use crate::search::move_in;
-use sheet::Move;
-use sheet::RegionMove;
-use sheet::Shape;
-use sheet::space::land;
+use sheet_bytes::Move;
+use sheet_bytes::RegionMove;
+use sheet_bytes::Shape;
+use sheet_bytes::space::land;
+use tables::cutting::settle;
+use tables::growth::append;
+use tables::rows::config_in;
+use tables::search::find;
+use tables::search::move_in;
 
 // Action a of row i, which is open: the new number of rows, or 256 where there are too many.
 pub fn lead(

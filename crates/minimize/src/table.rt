@@ -1,16 +1,16 @@
 // The refinement: representatives with shrinking boxes, until no row can be unstable.
 ghost use Prim.Native.Nat.{_<_, _≤_};
-ghost use Rattle.minimize.specs.Arrays.{CellsRoom, HomesRoom, TargetsRoom, FlagsRoom, flagIn};
-ghost use Rattle.minimize.specs.Meaning.{Ready};
+ghost use Rattle.tables.specs.Arrays.{CellsRoom, HomesRoom, TargetsRoom, FlagsRoom, flagIn};
+ghost use Rattle.tables.specs.Meaning.{Ready};
 ghost use Rattle.minimize.specs.State.{State};
 ghost use Rattle.minimize.specs.Steps.{Stable, Answered};
 ghost use Rattle.minimize.specs.Passes.{DownAbove, Counted, Swept};
 use crate::Refined;
-use crate::growth::append;
-use crate::marks::last_raised;
 use crate::steps::turn;
-use sheet::Shape;
-use sheet::fields::start_of;
+use sheet_bytes::Shape;
+use sheet_bytes::fields::start_of;
+use tables::growth::append;
+use tables::marks::last_raised;
 
 // How many passes have gone by since a row was new, counted up to 256.
 fn passes_after(passes: usize, n: usize, rows: usize) -> usize

@@ -245,8 +245,17 @@ within-ordered (r ∷ rs) (x ∷ xs) t =
     let (d, e) = contains-le r x .0 c in
     each-more {a = r} (omega ints) (within-ordered rs xs w)
 
--- ranges in order that lie inside ranges within the limits are within the limits
+-- ranges within the limits are in order
+pub fits-ordered : {rs : List Range} → Each RangeFits rs → Each Ordered rs
+fits-ordered each-none = each-none
+fits-ordered (each-more {a = r} f fs) = each-more {a = r} (f .ordered) (fits-ordered fs)
+
+-- A property that a range in order takes over from a range around it, ranges in order take over from ranges around them.
+pub inside-each : {P : Range → Type 0} → ((q r : Range) → r .low ≤ℤ q .low → q .low ≤ℤ q .high → q .high ≤ℤ r .high → P r → P q)
+    → {qs rs : List Range} → Inside qs rs → Each Ordered qs → Each P rs → Each P qs
+inside-each f inside-none o ps = each-none
+inside-each f (inside-more {q = q} {r = r} l u h) (each-more o os) (each-more p ps) = each-more (f q r l o u p) (inside-each f h os ps)
+
+-- to be within the limits is one
 pub inside-fits : {qs rs : List Range} → Inside qs rs → Each Ordered qs → Each RangeFits rs → Each RangeFits qs
-inside-fits inside-none o f = each-none
-inside-fits (inside-more {q = q} {r = r} l u h) (each-more o os) (each-more f fs) =
-    each-more (record { ordered = o; low-fits = omega ints; high-fits = omega ints }) (inside-fits h os fs)
+inside-fits i o f = inside-each (λ q r l p u f. record { ordered = p; low-fits = omega ints; high-fits = omega ints }) i o f

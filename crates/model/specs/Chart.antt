@@ -31,12 +31,12 @@ unfoldable pub targetOf : List ℕ → ℕ → ℕ → ℕ
 targetOf c i a = getD c (recordAt c i + 2 + a) 0
 
 -- the block that a target byte names, if it names one
-unfoldable pub named : ℕ → Option ℕ
-named t = elim (eqb t 255) [ true ↦ none | false ↦ some t ]
+unfoldable pub blockNamed : ℕ → Option ℕ
+blockNamed t = elim (eqb t 255) [ true ↦ none | false ↦ some t ]
 
 -- an action past the chart's number is barred
 unfoldable pub chartStep : List ℕ → ℕ → ℕ → Option ℕ
-chartStep c a i = elim (ltb a (actionsOf c)) [ true ↦ named (targetOf c i a) | false ↦ none ]
+chartStep c a i = elim (ltb a (actionsOf c)) [ true ↦ blockNamed (targetOf c i a) | false ↦ none ]
 
 -- The chart's transition system: its configurations are the block numbers.
 unfoldable pub chartSystem : List ℕ → System ℕ

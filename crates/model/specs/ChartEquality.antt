@@ -18,12 +18,12 @@ use Rattle.model.specs.ClassTheorem.{step-bounded, sheet-explorable}
 use Rattle.model.specs.ChartBytes.{SameEntries, same-entries}
 use Rattle.model.specs.ChartRules.{chart-reading}
 
--- a target's byte from its place
-byteOf : Option ℕ → ℕ
+-- a target's byte from its place: 255 for none
+unfoldable pub byteOf : Option ℕ → ℕ
 byteOf none = 255
 byteOf (some k) = k
 
-byteOf-place : (s : Sheet) (o : Option Configuration) → targetByte s o ≡ byteOf (Option·map (place (sameClass s) (blocks s)) o)
+pub byteOf-place : (s : Sheet) (o : Option Configuration) → targetByte s o ≡ byteOf (Option·map (place (sameClass s) (blocks s)) o)
 unfolding targetByte byteOf
 byteOf-place s none = refl
 byteOf-place s (some y) = refl

@@ -11,13 +11,13 @@ use lib.ListN.{length, getD}
 use Rattle.systems.specs.Exploration.{explore, place}
 use Rattle.systems.specs.System.{System, Alike}
 use Rattle.systems.specs.Alike.{Both, both-barred, both-open, bisimilar-alike, alike-trans}
-use Rattle.systems.specs.Explored.{Representatives, seen, named as grown, explore-representatives, present, seen-zero, seen-last, seen-next, step-known, step-named}
+use Rattle.systems.specs.Explored.{seen, grown, present, seen-zero, seen-last, seen-next, step-known, step-named}
 use Rattle.systems.specs.Quotient.{quotient, quotient-label, quotient-step, quotient-alike, quotient-closed}
 use Rattle.model.specs.Sheet.{Configuration, Move, Barred, Open, Region, Sheet, regionOf, moved, step, sheetSystem, sheetReading, Covered, WellFormed}
 use Rattle.model.specs.Blocks.{sameClass, blocks, blockAt, targetByte, chartOf}
-use Rattle.model.specs.Chart.{labelOf, targetOf, named, chartStep, chartSystem, chartReading, nextAfter, nextIn, nextUnnamed, ChartRules}
+use Rattle.model.specs.Chart.{labelOf, targetOf, blockNamed, chartStep, chartSystem, chartReading, nextAfter, nextIn, nextUnnamed, ChartRules}
 use Rattle.model.specs.Classes.{label-number, region-eq}
-use Rattle.model.specs.ClassTheorem.{step-bounded, sheet-explorable}
+use Rattle.model.specs.ClassTheorem.{step-bounded, sheet-explorable, blocks-representatives}
 use Rattle.model.specs.ChartBytes.{chartOf-mark, chartOf-actions, chartOf-length, chartOf-label, chartOf-target}
 use Rattle.model.specs.Rounds.{TargetsRight, named-barred, named-block, chartStep-in, chartStep-out, told-alike}
 
@@ -49,10 +49,6 @@ barred-alike s a x y e p = go (getD (regionOf s x .moves) a Barred) (getD (regio
     go (Open u qs) (Open t rs) q r = let z : _≡_ {A = ℕ} 0 1 = cc in absurd (omega arith)
 
 module _ (s : Sheet) (W : WellFormed s) (few : length (blocks s) ≤ 255) where
-  pub blocks-representatives : Representatives (sheetSystem s) (s .start) (Covered s) (blocks s)
-  unfolding blocks
-  blocks-representatives = explore-representatives (sheetSystem s) (sameClass s) (s .actions) (s .start) (Covered s) (sheet-explorable s W) 255
-
   -- an open action of a block leads to a block
   pub place-lt : (i a : ℕ) (y : Configuration) → i < length (blocks s) → step s a (blockAt s i) ≡ some y → place (sameClass s) (blocks s) y < length (blocks s)
   unfolding blocks sheetSystem
@@ -63,14 +59,14 @@ module _ (s : Sheet) (W : WellFormed s) (few : length (blocks s) ≤ 255) where
   unfolding targetByte
   chart-step a i h = go (decLt a (s .actions))
     where
-      one : (o : Option Configuration) → step s a (blockAt s i) ≡ o → named (targetByte s o) ≡ Option·map (place (sameClass s) (blocks s)) o
+      one : (o : Option Configuration) → step s a (blockAt s i) ≡ o → blockNamed (targetByte s o) ≡ Option·map (place (sameClass s) (blocks s)) o
       one none e = named-barred 255 refl
       one (some y) e = named-block (place (sameClass s) (blocks s) y) (omega (arith, place-lt i a y h e))
 
       go : Dec (a < s .actions) → chartStep (chartOf s) a i ≡ Option·map (place (sameClass s) (blocks s)) (step s a (blockAt s i))
       go (yes b) =
           chartStep-in (chartOf s) a i (subst (λ (n : ℕ). a < n) (sym (chartOf-actions s)) b)
-          ∙ ap named (chartOf-target s i a h b)
+          ∙ ap blockNamed (chartOf-target s i a h b)
           ∙ one (step s a (blockAt s i)) refl
       go (no b) =
           chartStep-out (chartOf s) a i (omega (arith, chartOf-actions s))
@@ -179,7 +175,7 @@ module _ (s : Sheet) (W : WellFormed s) (few : length (blocks s) ≤ 255) where
   bars : (i j a : ℕ) → i < length (blocks s) → j < length (blocks s) → a < s .actions → labelOf (chartOf s) i ≡ labelOf (chartOf s) j
       → targetOf (chartOf s) i a ≡ 255 → targetOf (chartOf s) j a ≡ 255
   bars i j a hi hj b e t =
-      let R = blocks-representatives in
+      let R = blocks-representatives s W in
       let l = sym (chartOf-label s W i hi) ∙ e ∙ chartOf-label s W j hj in
       let n = label-number s W (blockAt s i) (blockAt s j) (R .covered i hi) (R .covered j hj) .0 l in
       target-barred j a hj b .1 (barred-alike s a (blockAt s i) (blockAt s j) (region-eq s (blockAt s i) (blockAt s j) n) (target-barred i a hi b .0 t))
@@ -192,7 +188,7 @@ module _ (s : Sheet) (W : WellFormed s) (few : length (blocks s) ≤ 255) where
         mark = chartOf-mark s;
         actions-some = W .actions-some;
         actions-few = W .actions-few;
-        blocks-some = blocks-representatives .nonempty;
+        blocks-some = blocks-representatives s W .nonempty;
         blocks-few = few;
         length-right = chartOf-length s;
         targets-right = chart-targets;
@@ -202,13 +198,13 @@ module _ (s : Sheet) (W : WellFormed s) (few : length (blocks s) ≤ 255) where
         told-apart =
             λ i j h b.
             told-alike (chartOf s) few chart-targets i j (omega arith) b .1
-            (λ r. blocks-representatives .apart i j h b (λ w. block-alike i (omega arith) w ∙ r w ∙ sym (block-alike j b w)));
+            (λ r. blocks-representatives s W .apart i j h b (λ w. block-alike i (omega arith) w ∙ r w ∙ sym (block-alike j b w)));
       }
 
   -- The sheet's start is equivalent to block 0 of the chart:
   pub chart-alike : Alike (sheetSystem s) (chartSystem (chartOf s)) (s .start) 0
   chart-alike =
-      let R = blocks-representatives in
+      let R = blocks-representatives s W in
       subst (λ (x : Configuration). Alike (sheetSystem s) (chartSystem (chartOf s)) x 0) (R .first) (block-alike 0 (R .nonempty))
 
   -- what is read on the chart is what is read on the sheet.

@@ -9,10 +9,10 @@ use lib.Dec.{T}
 use lib.ListN.{length, getD, List·getD-eq-default}
 use Rattle.systems.specs.System.{Alike}
 use Rattle.systems.specs.Alike.{AlikeTo, alike-to-zero, alike-to-le, alike-depths, alike-refl, alike-sym, alike-trans}
-use Rattle.systems.specs.Explored.{Explorable}
+use Rattle.systems.specs.Explored.{Explorable, Representatives, explore-representatives}
 use Rattle.systems.specs.Moore.{Tested, alike-length}
 use Rattle.model.specs.Sheet.{Configuration, Box, Sheet, inBox, regionOf, nowhere, Move, Barred, moved, step, Region, regionNumber, Covered, sheetSystem, regionSystem, RangeFits, Each, WellFormed}
-use Rattle.model.specs.Blocks.{classBox, configurations, classOf, sameClass}
+use Rattle.model.specs.Blocks.{classBox, configurations, classOf, sameClass, blocks}
 use Rattle.model.specs.Boxes.{inBox-parts, Inside, inside-length, inside-fits, within-ordered, box-inside, box-ext}
 use Rattle.model.specs.Classes.{region-box, region-fits, class-exact, traces-readings, traces-alike}
 use Rattle.model.specs.Listing.{listing}
@@ -128,3 +128,8 @@ module _ (s : Sheet) (W : WellFormed s) where
   pub sheet-explorable : Explorable (sheetSystem s) (sameClass s) (s .actions) (s .start) (Covered s)
   unfolding sheetSystem
   sheet-explorable = record { starts = W .start-covered; closed = λ a x y. W .moves-land x y a; tells = class-alike; bounded = step-bounded s W }
+
+  -- They are representatives: reached, no two of them equivalent, and the start is the first.
+  pub blocks-representatives : Representatives (sheetSystem s) (s .start) (Covered s) (blocks s)
+  unfolding blocks
+  blocks-representatives = explore-representatives (sheetSystem s) (sameClass s) (s .actions) (s .start) (Covered s) sheet-explorable 255

@@ -29,7 +29,8 @@ map-out f [] b m = absurd (List·Memᴰ·not-nil m)
 map-out f (a ∷ l) b m =
     ⊎-elim (λ e. (a, List·Memᴰ·head refl, e)) (λ n. let (c, k, e) = map-out f l b n in (c, List·Memᴰ·tail k, e)) (List·Memᴰ·cases-cons m)
 
-suc-parts : (z : ℤ) → up (sucℤ z) + dn z ≡ suc (up z + dn (sucℤ z))
+-- the number after z
+pub suc-parts : (z : ℤ) → up (sucℤ z) + dn z ≡ suc (up z + dn (sucℤ z))
 suc-parts (pos n) = omega arith
 suc-parts (negsuc zero) = omega arith
 suc-parts (negsuc (suc n)) = omega arith
@@ -175,3 +176,11 @@ length-membersOf (r ∷ rs) = omega (arith, length-append (members (r .box)) (me
 pub length-listing : (s : Sheet) → length (listing s) ≡ configurations s
 unfolding listing configurations
 length-listing s = length-membersOf (s .regions)
+
+-- ranges without a member have no volume
+pub volume-none : (qs : List Range) → ((ys : List ℤ) → T (within qs ys) → ⊥) → volume qs ≡ 0
+volume-none qs f = sym (length-valuesIn qs) ∙ go (valuesIn qs) (λ ys m. f ys (valuesIn-mem qs ys .0 m))
+  where
+    go : (l : List (List ℤ)) → ((ys : List ℤ) → List·Memᴰ ys l → ⊥) → length l ≡ 0
+    go [] g = refl
+    go (x ∷ l) g = absurd (g x (List·Memᴰ·head refl))

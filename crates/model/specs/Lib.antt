@@ -6,6 +6,7 @@ pub mod Boxes
 pub mod Classes
 pub mod Finite
 pub mod ClassTheorem
+pub mod BoxList
 pub mod ChartBytes
 pub mod Rounds
 pub mod ChartRules

@@ -17,23 +17,23 @@ use Rattle.systems.specs.Laws.{both, all-true, below-suc, least-tells, eqb-tell
 use Rattle.systems.specs.Alike.{reading-open, reading-barred, Both, both-barred, both-open, AlikeTo, alike-to-zero, alike-to-suc, alike-to-le, alike-depths, alike-to-equivalence, before-inj, before-stopped, alone-inj}
 use Rattle.systems.specs.Counting.{numbers, numbers-length, numbers-mem, Finer, classes, classes-finer}
 use Rattle.systems.specs.Moore.{Chain, changes, changed, changed-differs, changes-le, settled-from, Tested, depths-chain, alike-length}
-use Rattle.model.specs.Chart.{actionsOf, blocksOf, labelOf, targetOf, named, chartStep, chartSystem, ToldApart, sameTarget, refines, roundClass}
+use Rattle.model.specs.Chart.{actionsOf, blocksOf, labelOf, targetOf, blockNamed, chartStep, chartSystem, ToldApart, sameTarget, refines, roundClass}
 
 -- each target is a block's number or 255
 abbrev pub TargetsRight : List ℕ → Type 0
 TargetsRight c = (i a : ℕ) → i < blocksOf c → a < actionsOf c → (targetOf c i a < blocksOf c) ⊎ (targetOf c i a ≡ 255)
 
 -- the block that a target names
-pub named-barred : (t : ℕ) → t ≡ 255 → named t ≡ none
-unfolding named
-named-barred t e = rw (eq-eqb t 255 e, named)
+pub named-barred : (t : ℕ) → t ≡ 255 → blockNamed t ≡ none
+unfolding blockNamed
+named-barred t e = rw (eq-eqb t 255 e, blockNamed)
 
-pub named-block : (t : ℕ) → t < 255 → named t ≡ some t
-unfolding named
-named-block t h = rw (ne-eqb t 255 (omega arith), named)
+pub named-block : (t : ℕ) → t < 255 → blockNamed t ≡ some t
+unfolding blockNamed
+named-block t h = rw (ne-eqb t 255 (omega arith), blockNamed)
 
 -- the chart's step, for its actions and past them
-pub chartStep-in : (c : List ℕ) (a i : ℕ) → a < actionsOf c → chartStep c a i ≡ named (targetOf c i a)
+pub chartStep-in : (c : List ℕ) (a i : ℕ) → a < actionsOf c → chartStep c a i ≡ blockNamed (targetOf c i a)
 unfolding chartStep
 chartStep-in c a i h = rw (lt-ltb a (actionsOf c) h, chartStep)
 
@@ -62,7 +62,7 @@ barred-open b = elim b [ ]
 
 -- where f tells R for the numbers below n, the test of two targets tells it for what they name
 target-tells : (f : ℕ → ℕ) (n : ℕ) (R : ℕ → ℕ → Type 0) → n ≤ 255 → ((i j : ℕ) → i < n → j < n → (f i ≡ f j) ↔ R i j)
-    → (t u : ℕ) → (t < n) ⊎ (t ≡ 255) → (u < n) ⊎ (u ≡ 255) → T (sameTarget f t u) ↔ Both R (named t) (named u)
+    → (t u : ℕ) → (t < n) ⊎ (t ≡ 255) → (u < n) ⊎ (u ≡ 255) → T (sameTarget f t u) ↔ Both R (blockNamed t) (blockNamed u)
 target-tells f n R few e t u (inl h) (inl g) =
     rw (same-open f t u (omega arith) (omega arith), named-block t (omega arith), named-block u (omega arith))
     (λ p. both-open (e t u h g .0 (eqb-tells (f t) (f u) .0 p)), λ b. eqb-tells (f t) (f u) .1 (e t u h g .1 (opened b)))
@@ -189,7 +189,7 @@ module _ (c : List ℕ) (few : blocksOf c ≤ 255) (right : TargetsRight c) wher
   pub chart-closed : (a i j : ℕ) → i < blocksOf c → chartStep c a i ≡ some j → j < blocksOf c
   chart-closed a i j h e = go (decLt a (actionsOf c))
     where
-      target : (targetOf c i a < blocksOf c) ⊎ (targetOf c i a ≡ 255) → named (targetOf c i a) ≡ some j → j < blocksOf c
+      target : (targetOf c i a < blocksOf c) ⊎ (targetOf c i a ≡ 255) → blockNamed (targetOf c i a) ≡ some j → j < blocksOf c
       target (inl g) n = let q = named-block (targetOf c i a) (omega arith) in let e′ : targetOf c i a ≡ j = cc in omega arith
       target (inr g) n = let q = named-barred (targetOf c i a) g in let z : _≡_ {A = ℕ} 0 1 = cc in absurd (omega arith)
 

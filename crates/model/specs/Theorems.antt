@@ -10,11 +10,11 @@ use lib.ListN.{length}
 use borrow.Author.Tests.{ltb-true, lt-ltb}
 use Rattle.systems.specs.System.{Reached, at-start, by-step, reading, Alike, Below}
 use Rattle.systems.specs.Alike.{Bisimulation, alike-bisimulation, bisimilar-alike}
-use Rattle.systems.specs.Explored.{Many, Representatives, explored, explored-one, refused, explore-representatives}
+use Rattle.systems.specs.Explored.{Many, explored, explored-one, refused}
 use Rattle.model.specs.Sheet.{Configuration, Sheet, inBox, sheetSystem, sheetReading, Covered, WellFormed}
 use Rattle.model.specs.Blocks.{classOf, sameClass, blocks, blockAt, tooMany, chartOf}
 use Rattle.model.specs.Chart.{ChartRules, chartReading}
-use Rattle.model.specs.ClassTheorem.{class-members, sheet-explorable}
+use Rattle.model.specs.ClassTheorem.{class-members, sheet-explorable, blocks-representatives}
 use Rattle.model.specs.ChartRules as Rules
 use Rattle.model.specs.ChartEquality.{chart-equality}
 
@@ -72,13 +72,9 @@ module _ (s : Sheet) (W : WellFormed s) where
         contains-all = λ R B x y r. bisimilar-alike (sheetSystem s) (sheetSystem s) B x y r;
       }
 
-  representatives : Representatives (sheetSystem s) (s .start) (Covered s) (blocks s)
-  unfolding blocks
-  representatives = explore-representatives (sheetSystem s) (sameClass s) (s .actions) (s .start) (Covered s) (sheet-explorable s W) 255
-
   -- what is in a block reads as its representative
   in-block : (i : ℕ) (x : Configuration) → InBlock s i x → Covered s x × Alike (sheetSystem s) (sheetSystem s) (blockAt s i) x
-  in-block i x (h, t) = class-members s W (blockAt s i) x (representatives .covered i h) .0 t
+  in-block i x (h, t) = class-members s W (blockAt s i) x (blocks-representatives s W .covered i h) .0 t
 
   index-of : (x : Configuration) → length (blocks s) ≤ 255 → Reached (sheetSystem s) (s .start) x
       → (i : ℕ) × (i < length (blocks s)) × Alike (sheetSystem s) (sheetSystem s) (blockAt s i) x
@@ -105,15 +101,15 @@ module _ (s : Sheet) (W : WellFormed s) where
   pub minimal-reachable : MinimalReachable s
   minimal-reachable =
       record {
-        start-first = representatives .first;
+        start-first = blocks-representatives s W .first;
         blocks-reached = λ i h.
-            (representatives .reached i h, (h, class-members s W (blockAt s i) (blockAt s i) (representatives .covered i h) .1 (representatives .covered i h, λ w. refl)));
+            (blocks-representatives s W .reached i h, (h, class-members s W (blockAt s i) (blockAt s i) (blocks-representatives s W .covered i h) .1 (blocks-representatives s W .covered i h, λ w. refl)));
         reached-blocks = λ few x r.
             let (i, h, p) = index-of x few r in
-            (i, (h, class-members s W (blockAt s i) x (representatives .covered i h) .1 (reached-covered x r, p)));
+            (i, (h, class-members s W (blockAt s i) x (blocks-representatives s W .covered i h) .1 (reached-covered x r, p)));
         one-block = λ i j x p q. same-index x i j (p .0) (q .0) (in-block i x p .1) (in-block j x q .1);
         shared-block = λ i j x y p q. shared i j x y p q;
-        boxes-exact = λ i x h. class-members s W (blockAt s i) x (representatives .covered i h);
+        boxes-exact = λ i x h. class-members s W (blockAt s i) x (blocks-representatives s W .covered i h);
         refused-many = (λ e. many .0 (too-many .0 e), λ m. too-many .1 (many .1 m));
       }
     where

@@ -1,10 +1,11 @@
 // The library that C and Rust programs link. An answer enum cannot cross to C: each function returns 0 where it was done, else the
 // refusal's number, and stores through `returned` what document 01's table says is returned. A slice passes as a pointer, then a length.
+// Public: no function asks anything of its caller, and each contract gives the answer as a definition does.
 ghost use mathlib.Core.Path.{_≡_};
 ghost use lib.ListN.{length};
 ghost use Rattle.model.specs.Blocks.{chartOf, boxListOf};
+ghost use Rattle.sheet_bytes.specs.Decode.{decode};
 ghost use Rattle.sheet.specs.Check.{sheetCheck};
-ghost use Rattle.sheet.specs.Decode.{decode};
 ghost use Rattle.sheet.specs.RunSheet.{sheetRan, sheetLeft};
 ghost use Rattle.chart.specs.Check.{chartCheck};
 ghost use Rattle.chart.specs.RunChart.{chartRan, chartLeft};

@@ -8,7 +8,8 @@ use Rattle.systems.specs.Lists.{collect}
 use Rattle.answers.specs.declared.Checked.{Checked}
 use Rattle.answers.specs.declared.Checked.the-variants.{Fine, Refused}
 use Rattle.model.specs.Chart.{actionsOf, blocksOf, labelOf, targetOf}
-use Rattle.chart.specs.Check.{headerCheck, chartCheck}
+use Rattle.chart_bytes.specs.Header.{headerCheck}
+use Rattle.chart.specs.Check.{chartCheck}
 use Rattle.reader.specs.declared.Handed.the-variants.{Block, NoneLeft}
 use Rattle.reader.specs.declared.Step.{Step}
 use Rattle.reader.specs.declared.Opening.{Opening}

@@ -14,9 +14,10 @@ use borrow.Author.Tests.{lt-ltb, le-ltb}
 use Rattle.systems.specs.Lists.{collect, length-each, getD-each}
 use Rattle.answers.specs.declared.Checked.{Checked}
 use Rattle.answers.specs.declared.Checked.the-variants.{Fine, Refused}
-use Rattle.model.specs.Chart.{blocksOf, labelOf}
-use Rattle.chart.specs.Check.{headerCheck, chartCheck}
 use Rattle.answers.specs.Loops.{and-second}
+use Rattle.model.specs.Chart.{blocksOf, labelOf}
+use Rattle.chart_bytes.specs.Header.{headerCheck}
+use Rattle.chart.specs.Check.{chartCheck}
 use Rattle.reader.specs.declared.Handed.the-variants.{Block}
 use Rattle.reader.specs.declared.Step.{Step}
 use Rattle.reader.specs.declared.Opening.{Opening}

@@ -12,9 +12,10 @@ use Rattle.answers.specs.declared.Checked.{Checked}
 use Rattle.answers.specs.declared.Checked.the-variants.{Fine, Refused}
 use Rattle.answers.specs.Stages.{andThen, then-fine}
 use Rattle.model.specs.Chart.{actionsOf, blocksOf, recordAt, labelOf, targetOf}
-use Rattle.chart.specs.Check.{headerCheck, targetsCheck, numbersCheck, barsCheck, classesCheck, formCheck, chartCheck}
-use Rattle.chart.specs.Shape.{Shaped, record-fits}
-use Rattle.chart.specs.Header.{header-passed}
+use Rattle.chart_bytes.specs.Header.{headerCheck}
+use Rattle.chart_bytes.specs.Shape.{Shaped, record-fits}
+use Rattle.chart_bytes.specs.HeaderLaws.{header-passed}
+use Rattle.chart.specs.Check.{targetsCheck, numbersCheck, barsCheck, classesCheck, formCheck, chartCheck}
 use Rattle.reader.specs.declared.Handed.{Handed}
 use Rattle.reader.specs.declared.Handed.the-variants.{Block, NoneLeft}
 use Rattle.reader.specs.declared.Step.{Step}

@@ -1,5 +1,6 @@
 // A chart reader (document 01): it stands over the caller's chart bytes and hands out the blocks one after another, then says that
 // none is left. The functions over the struct are thin: each takes it apart and calls a function on the slice and the number.
+// Public: no function asks anything of its caller, and each contract gives the answer as a definition does.
 ghost use mathlib.Core.Path.{_≡_};
 ghost use Rattle.chart.specs.Check.{chartCheck};
 ghost use Rattle.reader.specs.Reading.{stepAt, firstNext};

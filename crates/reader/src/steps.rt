@@ -2,17 +2,17 @@
 ghost use mathlib.Core.Path.{_≡_};
 ghost use Prim.Native.Nat.{_<_};
 ghost use Rattle.model.specs.Chart.{blocksOf};
-ghost use Rattle.chart.specs.Shape.{Shaped};
+ghost use Rattle.chart_bytes.specs.Shape.{Shaped};
 ghost use Rattle.reader.specs.Reading.{targetsOf, blockStep, noneStep, stepAt, firstNext, openingOf};
 use crate::Handed;
 use crate::Opening;
 use crate::Step;
 use answers::Checked;
-use chart::fields::actions_of;
-use chart::fields::blocks_of;
-use chart::fields::label_of;
-use chart::fields::target_of;
-use chart::header::check_header;
+use chart_bytes::fields::actions_of;
+use chart_bytes::fields::blocks_of;
+use chart_bytes::fields::label_of;
+use chart_bytes::fields::target_of;
+use chart_bytes::header::check_header;
 
 // The targets of block i, 255 past the last action.
 fn targets_of(c: &[u8], i: usize) -> [u8; 8]

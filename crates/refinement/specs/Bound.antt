@@ -15,11 +15,11 @@ use Rattle.systems.specs.System.{System, Alike, Reached, at-start, by-step}
 use Rattle.systems.specs.Alike.{AlikeTo, alike-next, both-left}
 use Rattle.systems.specs.Moore.{alike-numbers}
 use Rattle.systems.specs.Quotient.{quotient, quotient-alike, quotient-closed}
-use Rattle.systems.specs.Explored.{explore-representatives, explored}
+use Rattle.systems.specs.Explored.{explored}
 use Rattle.model.specs.declared.Rule.{Rule}
 use Rattle.model.specs.Sheet.{Configuration, Open, Sheet, inBox, landing, sheetSystem, Covered, WellFormed}
 use Rattle.model.specs.Blocks.{classBox, sameClass, blocks, blockAt, tooMany}
-use Rattle.model.specs.ClassTheorem.{class-depth, sheet-explorable}
+use Rattle.model.specs.ClassTheorem.{class-depth, sheet-explorable, blocks-representatives}
 use Rattle.refinement.specs.Table.{Sound, new-apart, next-reached, next-covered}
 use Rattle.refinement.specs.Depth.{AllDeep}
 use Rattle.refinement.specs.SheetTable.{Row, sheetFrame, moveAt, step-open, sheet-framed}
@@ -33,10 +33,6 @@ module _ (s : Sheet) (W : WellFormed s) (few : length (blocks s) ≤ 255) where
   unfolding blocks numbered
   block-alike i h = quotient-alike (sheetSystem s) (sameClass s) (s .actions) (s .start) (Covered s) (sheet-explorable s W) 255 few i h
 
-  block-covered : (i : ℕ) → i < length (blocks s) → Covered s (blockAt s i)
-  unfolding blocks
-  block-covered i h = explore-representatives (sheetSystem s) (sameClass s) (s .actions) (s .start) (Covered s) (sheet-explorable s W) 255 .covered i h
-
   -- class boxes test the numbers to each depth
   tests : ℕ → ℕ → ℕ → Bool
   tests k i j = inBox (classBox s k (blockAt s i)) (blockAt s j)
@@ -44,9 +40,9 @@ module _ (s : Sheet) (W : WellFormed s) (few : length (blocks s) ≤ 255) where
   tests-tell : (k i j : ℕ) → i < length (blocks s) → j < length (blocks s) → T (tests k i j) ↔ AlikeTo k numbered numbered i j
   unfolding tests
   tests-tell k i j hi hj =
-      let c = class-depth s W k (blockAt s i) (blockAt s j) (block-covered i hi) in (
+      let c = class-depth s W k (blockAt s i) (blockAt s j) (blocks-representatives s W .covered i hi) in (
         λ t w l. sym (block-alike i hi w) ∙ c .0 t .1 w l ∙ block-alike j hj w,
-        λ r. c .1 (block-covered j hj, λ w l. block-alike i hi w ∙ r w l ∙ sym (block-alike j hj w)),
+        λ r. c .1 (blocks-representatives s W .covered j hj, λ w l. block-alike i hi w ∙ r w l ∙ sym (block-alike j hj w)),
       )
 
   numbered-closed : (a i j : ℕ) → i < length (blocks s) → numbered .step a i ≡ some j → j < length (blocks s)

@@ -5,7 +5,7 @@ use mathlib.Core.Path.{_≡_, refl, sym, ap, subst, _∙_}
 use mathlib.Core.Logic.{_⊎_, inl, inr, ⊎-elim}
 use mathlib.Core.Bool.{Bool, true, false}
 use mathlib.Core.List.{List, [], _∷_, _++_}
-use mathlib.Core.Option.{Option, some, none, Option·map}
+use mathlib.Core.Option.{some, none, Option·map}
 use borrow.Author.Tests.{le-ltb}
 use lib.Dec.{T, eqb, eqb→eq}
 use lib.ListN.{length, getD}
@@ -13,9 +13,10 @@ use Rattle.integers.specs.LittleEndian.{split}
 use Rattle.systems.specs.Lists.{collect, collect-ext}
 use Rattle.systems.specs.Exploration.{place, known}
 use Rattle.systems.specs.Laws.{is-false}
-use Rattle.model.specs.Sheet.{Configuration, Box, Sheet, inBox, regionOf, step, sheetSystem, WellFormed}
+use Rattle.model.specs.Sheet.{Box, Sheet, inBox, regionOf, step, sheetSystem, WellFormed}
 use Rattle.model.specs.Blocks.{classOf, sameClass, blocks, blockAt, tooMany, targetByte, chartRecord, chartMark, chartOf, rangeBytes, boxRecord, boxListOf}
-use Rattle.model.specs.Chart.{named}
+use Rattle.model.specs.Chart.{blockNamed}
+use Rattle.model.specs.ChartEquality.{byteOf, byteOf-place}
 use Rattle.model.specs.Boxes.{box-ext}
 use Rattle.model.specs.Classes.{region-eq}
 use Rattle.model.specs.ClassTheorem.{class-members, class-eq, sheet-explorable}
@@ -52,18 +53,8 @@ byte-open : (order : List ℕ) (t : ℕ) → t < 255 → numberByte order t ≡ 
 unfolding numberByte
 byte-open order t h = rw (is-false (eqb t 255) (λ u. let e = eqb→eq t 255 u in omega arith), numberByte)
 
--- 255 for none
-unfoldable byteOf : Option ℕ → ℕ
-byteOf none = 255
-byteOf (some k) = k
-
-byte-target : (s : Sheet) (o : Option Configuration) → targetByte s o ≡ byteOf (Option·map (place (sameClass s) (blocks s)) o)
-unfolding byteOf targetByte
-byte-target s none = refl
-byte-target s (some y) = refl
-
-byte-number : (order : List ℕ) (t : ℕ) → byteOf (Option·map (place eqb order) (named t)) ≡ numberByte order t
-unfolding byteOf numberByte named
+byte-number : (order : List ℕ) (t : ℕ) → byteOf (Option·map (place eqb order) (blockNamed t)) ≡ numberByte order t
+unfolding byteOf numberByte blockNamed
 byte-number order t = go (eqb t 255)
   where
     go : (b : Bool) → byteOf (Option·map (place eqb order) (elim b [ true ↦ none | false ↦ some t ])) ≡ elim b [ true ↦ 255 | false ↦ place eqb order t ]
@@ -124,7 +115,7 @@ module _ (s : Sheet) (W : WellFormed s) {n : ℕ} {row : ℕ → Row} {t : ℕ �
   unfolding blocks sheetSystem
   completed-target k a h b =
       let e = completed-walk in
-      byte-target s (step s a (blockAt s k))
+      byteOf-place s (step s a (blockAt s k))
       ∙ ap byteOf (numbering-place (sheetFrame s) (sheet-framed s W) (sameClass s) (sheet-explorable s W) (D .few) (D .sound) (D .stable) 255 k a (omega arith) b)
       ∙ byte-number (walk t (s .actions) 255) (t (getD (walk t (s .actions) 255) k 0) a)
 

@@ -5,35 +5,27 @@ use native.Mathlib.Omega.{arith}
 use mathlib.Core.Path.{_≡_, refl, sym, ap, subst, _∙_}
 use mathlib.Core.Bool.{Bool, true, false}
 use mathlib.Core.List.{List}
-use mathlib.Core.Option.{some, none, Option·map}
+use mathlib.Core.Option.{none, Option·map}
 use borrow.Author.Tests.{lt-ltb, le-ltb}
 use lib.Dec.{T, eqb, ltb, eqb→eq, eqb-refl}
 use lib.ListN.{length, getD}
 use Rattle.systems.specs.System.{System, Alike}
 use Rattle.systems.specs.Exploration.{place, explore}
-use Rattle.systems.specs.Laws.{same-test, is-false}
+use Rattle.systems.specs.Laws.{same-test}
 use Rattle.systems.specs.Alike.{Both, both-barred, both-open, alike-refl, alike-label}
 use Rattle.systems.specs.Places.{prefix-length}
 use Rattle.systems.specs.Explored.{Explorable, Many, explore-representatives, explore-prefix, one-index, refused}
 use Rattle.systems.specs.LockStep.{All2, all2-length, all2-at, LockStep, lock-explore, lock-step-place}
 use Rattle.systems.specs.Pigeonhole.{pigeonhole}
-use Rattle.model.specs.Chart.{named}
+use Rattle.model.specs.Chart.{blockNamed}
+use Rattle.model.specs.Rounds.{named-block, named-barred}
 use Rattle.refinement.specs.Table.{Frame, Framed, Sound, StableAt, stable-barred, stable-open, Stable, row-barred, row-alike, alike-row, sound-many}
-
--- a target byte names a row, or 255 none
-pub named-open : (t : ℕ) → t < 255 → named t ≡ some t
-unfolding named
-named-open t h = rw (is-false (eqb t 255) (λ u. let e = eqb→eq t 255 u in omega arith), named)
-
-pub named-barred : (t : ℕ) → t ≡ 255 → named t ≡ none
-unfolding named
-named-barred t e = rw e refl
 
 -- The system on row numbers that the stored targets give. Its labels are the numbers themselves; the actions past the last are barred.
 unfoldable pub targetSystem : (ℕ → ℕ → ℕ) → ℕ → System ℕ
-targetSystem t actions = record { label = λ i. i; step = λ a i. elim (ltb a actions) [ true ↦ named (t i a) | false ↦ none ] }
+targetSystem t actions = record { label = λ i. i; step = λ a i. elim (ltb a actions) [ true ↦ blockNamed (t i a) | false ↦ none ] }
 
-pub target-step : (t : ℕ → ℕ → ℕ) (actions a i : ℕ) → a < actions → targetSystem t actions .step a i ≡ named (t i a)
+pub target-step : (t : ℕ → ℕ → ℕ) (actions a i : ℕ) → a < actions → targetSystem t actions .step a i ≡ blockNamed (t i a)
 unfolding targetSystem
 target-step t actions a i h = rw (lt-ltb a actions h, targetSystem)
 
@@ -82,9 +74,9 @@ module _ {X Row : Type 0} (F : Frame X Row) (E : Framed F) (same : X → X → B
             λ p. g .1 (row-alike F E S B i h x x′ u (subst (λ (k : ℕ). T (F .has (row k) x′)) (sym (eqb→eq i i′ p)) u′)),
           )
 
-      next : (x : X) (i : ℕ) → i < n → T (F .has (row i) x) → (a m : ℕ) → StableAt F n row (row i) a m → Both (InRow F n row) (F .system .step a x) (named m)
+      next : (x : X) (i : ℕ) → i < n → T (F .has (row i) x) → (a m : ℕ) → StableAt F n row (row i) a m → Both (InRow F n row) (F .system .step a x) (blockNamed m)
       next x i h u a m (stable-barred p q) = rw (row-barred F E (row i) a x (S .rows i h) u p, named-barred m q) both-barred
-      next x i h u a m (stable-open l f) = let L = f x u in rw (L .leads, named-open m (omega arith)) (both-open (l, L .inside))
+      next x i h u a m (stable-open l f) = let L = f x u in rw (L .leads, named-block m (omega arith)) (both-open (l, L .inside))
 
   start-in : InRow F n row (F .start) 0
   start-in = (S .nonempty, subst (λ (z : X). T (F .has (row 0) z)) (S .first) (S .rows 0 (S .nonempty) .holds))
@@ -105,7 +97,7 @@ module _ {X Row : Type 0} (F : Frame X Row) (E : Framed F) (same : X → X → B
   -- and an action of member k is barred, or leads to the place that the stored target has in the walk.
   pub numbering-place : (m k a : ℕ) → k < length (walk t (F .actions) m) → a < F .actions
       → Option·map (place same (explore (F .system) same (F .actions) (F .start) m)) (F .system .step a (getD (explore (F .system) same (F .actions) (F .start) m) k (F .start)))
-      ≡ Option·map (place eqb (walk t (F .actions) m)) (named (t (getD (walk t (F .actions) m) k 0) a))
+      ≡ Option·map (place eqb (walk t (F .actions) m)) (blockNamed (t (getD (walk t (F .actions) m) k 0) a))
   unfolding walk
   numbering-place m k a h b =
       let e : length (explore (F .system) same (F .actions) (F .start) m) ≡ length (explore (targetSystem t (F .actions)) eqb (F .actions) 0 m) = numbering-length m in

@@ -10,7 +10,7 @@ use Rattle.systems.specs.Exploration.{added}
 use Rattle.systems.specs.Explored.{present, member-stays}
 use Rattle.model.specs.Sheet.{Sheet, WellFormed}
 use Rattle.model.specs.Blocks.{sameClass}
-use Rattle.model.specs.Chart.{named}
+use Rattle.model.specs.Chart.{blockNamed}
 use Rattle.model.specs.ClassTheorem.{sheet-explorable}
 use Rattle.refinement.specs.Numbering.{targetSystem, target-explorable, walk, walk-bound}
 use Rattle.refinement.specs.Walk.{Numbered, numbered-first, numbered-old, numbered-new, walking, walking-first, walking-zero, walking-next, walking-row, walking-done}
@@ -70,8 +70,8 @@ module _ (s : Sheet) (W : WellFormed s) {n : ℕ} {row : ℕ → Row} {t : ℕ �
         let g = walking-bound t (s .actions) n m a (at-most (suc m)) (ordering-present m h) b in
         omega arith
 
-    next-is : a < s .actions → walking t (s .actions) m (suc a) ≡ added eqb (walking t (s .actions) m a) (named (t (order m) a))
-    next-is b = walking-next t (s .actions) m a b ∙ ap (λ (i : ℕ). added eqb (walking t (s .actions) m a) (named (t i a))) (sym member)
+    next-is : a < s .actions → walking t (s .actions) m (suc a) ≡ added eqb (walking t (s .actions) m a) (blockNamed (t (order m) a))
+    next-is b = walking-next t (s .actions) m a b ∙ ap (λ (i : ℕ). added eqb (walking t (s .actions) m a) (blockNamed (t i a))) (sym member)
 
     -- A target that is barred or has its place adds nothing.
     pub ordering-old : a < s .actions → (t (order m) a ≡ 255) ⊎ (number (t (order m) a) < 255) → Ordering s t order number c m (suc a)

@@ -16,8 +16,9 @@ use Rattle.systems.specs.Laws.{told, is-true, true-is, not-true, is-false}
 use Rattle.systems.specs.Places.{Prefix, prefix-refl, prefix-trans, prefix-length, prefix-at, known-place, place-new, known-in, known-at, prefix-known, prefix-place}
 use Rattle.systems.specs.Places.{added-old, added-new, added-prefix, added-place}
 use Rattle.systems.specs.Explored.{seen, seen-zero, seen-start, seen-row, explore-done, step-known}
-use Rattle.model.specs.Chart.{named}
-use Rattle.refinement.specs.Numbering.{targetSystem, target-step, target-explorable, walk, named-open, named-barred}
+use Rattle.model.specs.Chart.{blockNamed}
+use Rattle.model.specs.Rounds.{named-block, named-barred}
+use Rattle.refinement.specs.Numbering.{targetSystem, target-step, target-explorable, walk}
 
 -- the place of a row number in a list, or 255 where it is not there
 unfoldable pub numberOf : List ℕ → ℕ → ℕ
@@ -113,22 +114,22 @@ added-none l = refl
 
 -- a target that is barred or already has its place adds nothing
 pub numbered-old : {l : List ℕ} {order number : ℕ → ℕ} {c : ℕ} (j : ℕ) → Numbered l order number c → j ≤ 255 → (j ≡ 255) ⊎ (number j < 255)
-    → added eqb l (named j) ≡ l
+    → added eqb l (blockNamed j) ≡ l
 numbered-old {l} {order} {number} {c} j N h (inl e) = ap (added eqb l) (named-barred j e) ∙ added-none l
 numbered-old {l} {order} {number} {c} j N h (inr b) = go (ℕ-discrete j 255)
   where
-    go : Dec (j ≡ 255) → added eqb l (named j) ≡ l
+    go : Dec (j ≡ 255) → added eqb l (blockNamed j) ≡ l
     go (yes e) = ap (added eqb l) (named-barred j e) ∙ added-none l
     go (no e) =
         let q = N .numbers j h in
-        ap (added eqb l) (named-open j (omega arith)) ∙ added-old eqb l j (number-known l j (omega arith))
+        ap (added eqb l) (named-block j (omega arith)) ∙ added-old eqb l j (number-known l j (omega arith))
 
 -- a target without a place gets the next one
 pub numbered-new : {l : List ℕ} {order number order′ number′ : ℕ → ℕ} {c : ℕ} (j : ℕ) → Numbered l order number c → c ≤ 255 → j < 255 → number j ≡ 255
     → order′ c ≡ j → ((k : ℕ) → k < c → order′ k ≡ order k) → number′ j ≡ c → ((k : ℕ) → k ≤ 255 → (k ≡ j → ⊥) → number′ k ≡ number k)
-    → Numbered (added eqb l (named j)) order′ number′ (suc c)
+    → Numbered (added eqb l (blockNamed j)) order′ number′ (suc c)
 numbered-new {l} {order} {number} {order′} {number′} {c} j N b h e p q r t =
-    subst (λ (m : List ℕ). Numbered m order′ number′ (suc c)) (sym (ap (added eqb l) (named-open j h) ∙ added-new eqb l j u))
+    subst (λ (m : List ℕ). Numbered m order′ number′ (suc c)) (sym (ap (added eqb l) (named-block j h) ∙ added-new eqb l j u))
     (record { count = omega (arith, length-append l (j ∷ [])); orders = orders; numbers = λ k d. numbers k d (ℕ-discrete k j) })
   where
     n : c ≡ length l
@@ -153,11 +154,11 @@ numbered-new {l} {order} {number} {order′} {number′} {c} j N b h e p q r t =
 
 -- and the list is longer by one
 pub numbered-grows : {l : List ℕ} {order number : ℕ → ℕ} {c : ℕ} (j : ℕ) → Numbered l order number c → c ≤ 255 → j < 255 → number j ≡ 255
-    → length (added eqb l (named j)) ≡ suc c
+    → length (added eqb l (blockNamed j)) ≡ suc c
 numbered-grows {l} {order} {number} {c} j N b h e =
     let n = N .count in
     let u = number-unknown l j (omega arith) (sym (N .numbers j (omega arith)) ∙ e) in
-    let q = ap length (ap (added eqb l) (named-open j h) ∙ added-new eqb l j u) in
+    let q = ap length (ap (added eqb l) (named-block j h) ∙ added-new eqb l j u) in
     omega (arith, length-append l (j ∷ []))
 
 -- the list at the moment when action a of member m is looked at
@@ -175,7 +176,7 @@ module _ (t : ℕ → ℕ → ℕ) (actions : ℕ) where
   walking-zero m = seen-zero (targetSystem t actions) eqb actions 0 (λ i. Unit {0}) (target-explorable t actions) m
 
   -- adds the target of action a of member m,
-  pub walking-next : (m a : ℕ) → a < actions → walking t actions m (suc a) ≡ added eqb (walking t actions m a) (named (t (getD (walk t actions m) m 0) a))
+  pub walking-next : (m a : ℕ) → a < actions → walking t actions m (suc a) ≡ added eqb (walking t actions m a) (blockNamed (t (getD (walk t actions m) m 0) a))
   unfolding walking walk seen visited
   walking-next m a h = ap (added eqb (walking t actions m a)) (target-step t actions a (getD (walk t actions m) m 0) h)
 
@@ -220,4 +221,4 @@ module _ (t : ℕ → ℕ → ℕ) (actions : ℕ) where
   walk-known m k a d h b c =
       is-true (known eqb (walk t actions m) (t (getD (walk t actions m) k 0) a)) (known-place eqb (walk t actions m) (t (getD (walk t actions m) k 0) a) .1
       (step-known (targetSystem t actions) eqb actions 0 (λ i. Unit {0}) (target-explorable t actions) m k a (t (getD (walk t actions m) k 0) a) (omega arith) h
-      (target-step t actions a (getD (walk t actions m) k 0) b ∙ named-open (t (getD (walk t actions m) k 0) a) c)))
+      (target-step t actions a (getD (walk t actions m) k 0) b ∙ named-block (t (getD (walk t actions m) k 0) a) c)))

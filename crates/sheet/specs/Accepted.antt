@@ -9,7 +9,7 @@ use native.Mathlib.Omega.{arith}
 use lib.Dec.{T, lit<, eqb, leb, ltb, eqb→eq, eqb-refl, leb→le}
 use lib.ListN.{length, getD, drop, List·getD-eq-default}
 use borrow.Author.Tests.{ltb-true, ltb-false}
-use Rattle.integers.specs.LittleEndian.{Bytes, unsignedAt, joined-lt}
+use Rattle.integers.specs.LittleEndian.{Bytes, unsignedAt, joined-lt, bytes-drop}
 use Rattle.systems.specs.Search.{any, run}
 use Rattle.systems.specs.Laws.{told, true-is, both, any-true}
 use Rattle.systems.specs.Lists.{length-each, getD-each}
@@ -21,12 +21,14 @@ use Rattle.model.specs.Sheet.{Configuration, Box, Move, Barred, Region, RegionF
 use Rattle.model.specs.Listing.{members}
 use Rattle.model.specs.Finite.{members-mem}
 use Rattle.model.specs.Classes.{covered-in, in-covered, number-is}
-use Rattle.sheet.specs.Layout.{countersOf, actionsOf, regionsOf, regionPlace, labelAt, stateAt, highPlace, movePlace, movePart, rulePlace, kindOf}
-use Rattle.sheet.specs.Decode.{listed, rangeAt, boxAt, moveAt, regionAt, startOf, decode}
-use Rattle.sheet.specs.Check.{from-to, checkHeader, checkCounts, checkLength, checkRule, checkZeroRule, checkMove, checkFields, checkLabel, checkOverlap, covered, checkStart, every, lands, checkLanding, overlap, sheetCheck}
-use Rattle.sheet.specs.Shape.{Shaped}
+use Rattle.sheet_bytes.specs.Layout.{countersOf, actionsOf, regionsOf, regionPlace, labelAt, stateAt, highPlace, movePlace, movePart, rulePlace, kindOf}
+use Rattle.sheet_bytes.specs.Decode.{listed, rangeAt, boxAt, moveAt, regionAt, startOf, decode}
+use Rattle.sheet_bytes.specs.Shape.{Shaped}
+use Rattle.sheet_bytes.specs.Bounds.{each-listed}
+use Rattle.sheet_form.specs.Form.{from-to, checkHeader, checkCounts, checkLength, checkRule, checkZeroRule, checkMove, checkFields}
+use Rattle.sheet_form.specs.Fits.{moves-fit, range-fits}
+use Rattle.sheet.specs.Check.{checkLabel, checkOverlap, covered, checkStart, every, lands, checkLanding, overlap, sheetCheck}
 use Rattle.sheet.specs.Overlap.{overlap-out, regions-apart}
-use Rattle.sheet.specs.Fits.{each-listed, bytes-drop, moves-fit, range-fits}
 
 pub demanded : (t : Bool) (n p : ℕ) → demand t n p ≡ Fine → T t
 demanded t n p e = true-is t (demand-fine t n p e)

@@ -1,79 +1,19 @@
--- Which bytes are a sheet, and how others are refused (document 01, "Turned back", 1 to 8). Definitions only.
--- Checks run by rising number; each looks for the first place such that.
-use mathlib.Core.Bool.{Bool, true, false, _&&_, not}
+-- Which bytes are a sheet, and how others are refused (document 01, "Turned back", 1 to 8; the form, 1 to 4, stands in sheet_form). Definitions
+-- only. Checks run by rising number; each looks for the first place such that.
+use mathlib.Core.Bool.{Bool, true, _&&_, not}
 use mathlib.Core.List.{List, [], _∷_}
 use mathlib.Core.Option.{Option, some, none}
-use Prim.Native.Nat.{ℕ, _+_}
-use lib.Dec.{eqb, leb, ltb}
-use lib.ListN.{length, getD, drop, take}
-use lib.IntN.{ℤ, pos, negℤ}
-use lib.Signed.{leZ}
-use Rattle.integers.specs.Range.{contains, meet, vacant}
+use Prim.Native.Nat.{ℕ}
+use lib.Dec.{eqb}
+use Rattle.integers.specs.Range.{meet, vacant}
 use Rattle.systems.specs.Search.{any, all}
 use Rattle.answers.specs.declared.Checked.{Checked}
 use Rattle.answers.specs.Stages.{andThen, demand, each}
 use Rattle.model.specs.Sheet.{Configuration, moved, inBox}
 use Rattle.model.specs.Listing.{members}
-use Rattle.sheet.specs.Layout.{sheetMark, countersOf, actionsOf, regionsOf, regionPlace, labelAt, stateAt, highPlace, movePlace, movePart, rulePlace, kindOf, sourceOf, factorOf, offsetOf}
-use Rattle.sheet.specs.Decode.{rangeAt, boxAt, moveAt, startOf}
-
--- the bytes of two lists are the same
-unfoldable pub sameBytes : List ℕ → List ℕ → Bool
-sameBytes [] [] = true
-sameBytes [] (b ∷ l) = false
-sameBytes (a ∷ k) [] = false
-sameBytes (a ∷ k) (b ∷ l) = eqb a b && sameBytes k l
-
--- a number from m to n
-abbrev pub from-to : ℕ → ℕ → ℕ → Bool
-from-to m n x = leb m x && leb x n
-
--- an integer within n of zero
-abbrev pub near : ℕ → ℤ → Bool
-near n z = contains (record { low = negℤ (pos n); high = pos n }) z
-
--- 1: fewer bytes than the fixed header, or wrong mark or version
-unfoldable pub checkHeader : List ℕ → Checked
-checkHeader s = demand (leb 9 (length s) && sameBytes (take 5 s) sheetMark) 1 0
-
--- 2: the first count outside its limits
-unfoldable pub checkCounts : List ℕ → Checked
-checkCounts s =
-    andThen (demand (from-to 1 3 (countersOf s)) 2 5)
-    (andThen (demand (from-to 1 8 (actionsOf s)) 2 6) (demand (from-to 1 32 (regionsOf s)) 2 7))
-
--- 3: the length is not what the counts give
-unfoldable pub checkLength : List ℕ → Checked
-checkLength s = demand (eqb (length s) (regionPlace s (regionsOf s))) 3 (length s)
-
--- 4, the rule at place at, in an open move: the fields in file order
-unfoldable pub checkRule : ℕ → List ℕ → ℕ → Checked
-checkRule V# p at =
-    andThen (demand (leb (kindOf p) 1) 4 at)
-    (andThen (demand (elim (eqb (kindOf p) 0) [ true ↦ eqb (sourceOf p) 0 | false ↦ ltb (sourceOf p) V# ]) 4 (at + 1))
-    (andThen (demand (elim (eqb (kindOf p) 0) [ true ↦ near 0 (factorOf p) | false ↦ near 100 (factorOf p) && not (near 0 (factorOf p)) ]) 4 (at + 2))
-    (demand (near 4000000 (offsetOf p)) 4 (at + 3))))
-
--- 4, the rule at place at, in a barred move: every field is zero
-unfoldable pub checkZeroRule : List ℕ → ℕ → Checked
-checkZeroRule p at =
-    andThen (demand (eqb (kindOf p) 0) 4 at)
-    (andThen (demand (eqb (sourceOf p) 0) 4 (at + 1)) (andThen (demand (near 0 (factorOf p)) 4 (at + 2)) (demand (near 0 (offsetOf p)) 4 (at + 3))))
-
--- 4, the move record at place at
-unfoldable pub checkMove : ℕ → List ℕ → ℕ → Checked
-checkMove V# p at =
-    andThen (demand (leb (kindOf p) 1) 4 at)
-    (elim (eqb (kindOf p) 0) [
-      | true ↦ andThen (demand (eqb (getD p 1 0) 0) 4 (at + 1)) (each (λ v. checkZeroRule (drop (rulePlace v) p) (at + rulePlace v)) V#)
-      | false ↦ each (λ v. checkRule V# (drop (rulePlace v) p) (at + rulePlace v)) V#
-    ])
-
--- 4, region i: low above high, then the moves
-unfoldable pub checkFields : List ℕ → ℕ → Checked
-checkFields s i =
-    andThen (each (λ v. demand (leZ (rangeAt s i v .low) (rangeAt s i v .high)) 4 (highPlace s i v)) (countersOf s))
-    (each (λ a. checkMove (countersOf s) (movePart s i a) (movePlace s i a)) (actionsOf s))
+use Rattle.sheet_bytes.specs.Layout.{countersOf, actionsOf, regionsOf, regionPlace, labelAt, stateAt, movePlace}
+use Rattle.sheet_bytes.specs.Decode.{rangeAt, boxAt, moveAt, startOf}
+use Rattle.sheet_form.specs.Form.{checkHeader, checkCounts, checkLength, checkFields}
 
 -- 5, region j: an earlier region has its label
 unfoldable pub checkLabel : List ℕ → ℕ → Checked

@@ -7,7 +7,7 @@ use Prim.Native.Nat.{ℕ, zero, suc, _+_, _*_, _≤_, _<_}
 use native.Mathlib.Omega.{arith}
 use lib.Dec.{T, eqb, leb, eqb·suc-suc}
 use lib.ListN.{length}
-use lib.IntN.{ℤ, pos, negsuc, sucℤ}
+use lib.IntN.{ℤ, sucℤ}
 use lib.Signed.{_≤ℤ_}
 use borrow.Author.Tests.{ne-eqb, leb-true, leb-false}
 use Rattle.integers.specs.Order.{up, dn, ints, le-out, lt-ltZ}
@@ -19,7 +19,7 @@ use Rattle.model.specs.Sheet.{within}
 use Rattle.model.specs.Blocks.{volume}
 use Rattle.model.specs.Boxes.{Inside, inside-none, inside-more, within-inside}
 use Rattle.model.specs.Listing.{numbers, numbersIn, prefixed, valuesIn}
-use Rattle.model.specs.Finite.{valuesIn-mem, length-valuesIn}
+use Rattle.model.specs.Finite.{suc-parts, valuesIn-mem, volume-none}
 use Rattle.sheet.specs.Check.{every}
 
 -- 1 for a test that passes
@@ -106,11 +106,6 @@ count-any t (suc n) l d =
     omega arith
 
 -- how many numbers from z on lie in a range that begins at z or before it, and ends among them
-suc-up : (z : ℤ) → up (sucℤ z) + dn z ≡ suc (up z + dn (sucℤ z))
-suc-up (pos n) = omega arith
-suc-up (negsuc zero) = omega arith
-suc-up (negsuc (suc n)) = omega arith
-
 abbrev between : ℤ → ℤ → Range
 between a b = record { low = a; high = b }
 
@@ -137,7 +132,7 @@ order a b = ⊎-elim (λ e. inl (leb-true a b e)) (λ e. inr (leb-false a b e)) 
 
 size-step : (z b : ℤ) → up z + dn b ≤ up b + dn z → size (between z b) ≡ suc (size (between (sucℤ z) b))
 size-step z b h =
-    let p = suc-up z in
+    let p = suc-parts z in
     ⊎-elim
     (λ k. omega (arith, size-to z b h, size-to (sucℤ z) b k))
     (λ k. omega (arith, size-to z b h, size-past (sucℤ z) b k))
@@ -148,7 +143,7 @@ count-from : (q : Range) (z : ℤ) (n : ℕ) → q .low ≤ℤ z → up (q .high
 unfolding count numbers bit
 count-from q z zero l h = sym (size-past z (q .high) (omega arith))
 count-from q z (suc n) l h =
-    let p = suc-up z in
+    let p = suc-parts z in
     let i = count-from q (sucℤ z) n (omega ints) (omega arith) in
     ⊎-elim
     (λ k. let b = ap bit (in-yes q z l (le-out z (q .high) k)) in omega (arith, size-step z (q .high) k))
@@ -160,7 +155,7 @@ count-range : (q : Range) (z : ℤ) (n : ℕ) → z ≤ℤ q .low → up (q .hig
 unfolding count numbers bit
 count-range q z zero l h = sym (size-past (q .low) (q .high) (omega ints))
 count-range q z (suc n) l h =
-    let p = suc-up z in
+    let p = suc-parts z in
     ⊎-elim
     (λ k.
     let e : z ≡ q .low = omega ints in
@@ -210,14 +205,6 @@ count-inside (inside-more {q = q} {r = r} {qs = qs} {rs = rs} l u h) =
     let n = count-numbers q r l u in
     let i = count-inside h in
     cc
-
--- ranges without a member have no volume
-pub volume-none : (qs : List Range) → ((ys : List ℤ) → T (within qs ys) → ⊥) → volume qs ≡ 0
-volume-none qs f = sym (length-valuesIn qs) ∙ go (valuesIn qs) (λ ys m. f ys (valuesIn-mem qs ys .0 m))
-  where
-    go : (l : List (List ℤ)) → ((ys : List ℤ) → List·Memᴰ ys l → ⊥) → length l ≡ 0
-    go [] g = refl
-    go (x ∷ l) g = absurd (g x (List·Memᴰ·head refl))
 
 -- Among the members of ranges, those within others that lie in them are as many as these hold.
 pub count-within : (qs rs : List Range) → ((ys : List ℤ) → T (within qs ys) → T (within rs ys)) → count (within qs) (valuesIn rs) ≡ volume qs

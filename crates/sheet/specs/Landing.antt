@@ -20,13 +20,14 @@ use Rattle.model.specs.Blocks.{volume, preimage}
 use Rattle.model.specs.Boxes.{inBox-parts, preimage-exact}
 use Rattle.model.specs.Listing.{valuesIn, configuration, members}
 use Rattle.model.specs.Finite.{valuesIn-mem, length-members}
-use Rattle.sheet.specs.Layout.{countersOf, actionsOf, regionsOf, movePlace}
-use Rattle.sheet.specs.Decode.{rangeAt, boxAt, moveAt}
-use Rattle.sheet.specs.Check.{every, lands, covered, checkFields, checkOverlap, checkLanding}
-use Rattle.sheet.specs.Shape.{Shaped}
+use Rattle.sheet_bytes.specs.Layout.{countersOf, actionsOf, regionsOf, movePlace}
+use Rattle.sheet_bytes.specs.Decode.{rangeAt, boxAt, moveAt}
+use Rattle.sheet_bytes.specs.Shape.{Shaped}
+use Rattle.sheet_form.specs.Form.{checkFields}
+use Rattle.sheet_form.specs.Fits.{moves-fit}
+use Rattle.sheet.specs.Check.{every, lands, covered, checkOverlap, checkLanding}
 use Rattle.sheet.specs.Counting.{count, sum, count-le, count-map, count-ext, count-any, count-within, every-count}
 use Rattle.sheet.specs.Overlap.{regions-apart}
-use Rattle.sheet.specs.Fits.{moves-fit}
 
 -- how many configurations of a box an open move takes into a wanted box
 unfoldable pub share : Box → ℕ → List Rule → Box → ℕ

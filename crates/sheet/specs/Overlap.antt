@@ -20,8 +20,8 @@ use Rattle.answers.specs.Stages.{each, demand-fine, each-fine}
 use Rattle.model.specs.Sheet.{Configuration, within, inBox}
 use Rattle.model.specs.Blocks.{empty}
 use Rattle.model.specs.Boxes.{within-cons, inBox-parts}
-use Rattle.sheet.specs.Layout.{countersOf, regionsOf, stateAt, regionPlace}
-use Rattle.sheet.specs.Decode.{listed, rangeAt, boxAt}
+use Rattle.sheet_bytes.specs.Layout.{countersOf, regionsOf, stateAt, regionPlace}
+use Rattle.sheet_bytes.specs.Decode.{listed, rangeAt, boxAt}
 use Rattle.sheet.specs.Check.{overlap, checkOverlap}
 
 -- values lie within ranges exactly when each lies in its own

@@ -13,12 +13,12 @@ use Rattle.systems.specs.Laws.{is-true, true-is, is-false, not-true, same-test,
 use Rattle.answers.specs.declared.Checked.{Checked}
 use Rattle.answers.specs.Stages.{demand}
 use Rattle.model.specs.Sheet.{regionNumber}
-use Rattle.sheet.specs.declared.Shape.{Shape}
-use Rattle.sheet.specs.declared.Config.{Config}
-use Rattle.sheet.specs.Layout.{countersOf, regionsOf, labelAt, stateAt}
-use Rattle.sheet.specs.Decode.{rangeAt, startOf, decode}
+use Rattle.sheet_bytes.specs.declared.Shape.{Shape}
+use Rattle.sheet_bytes.specs.declared.Config.{Config}
+use Rattle.sheet_bytes.specs.Layout.{countersOf, regionsOf, labelAt, stateAt}
+use Rattle.sheet_bytes.specs.Decode.{rangeAt, startOf, decode}
+use Rattle.sheet_bytes.specs.Three.{Read, configMeant, startThree, start-meant}
 use Rattle.sheet.specs.Check.{overlap, covered, checkStart}
-use Rattle.sheet.specs.Three.{Read, configMeant, startThree, start-meant}
 use Rattle.sheet.specs.Accepted.{covered-is, regions-count}
 
 -- a search that found one, and one that found none

@@ -7,8 +7,8 @@ use Rattle.answers.specs.declared.Ran.{Ran}
 use Rattle.answers.specs.Stages.{andThen}
 use Rattle.answers.specs.Run.{runChecks, ranBy, leftBy}
 use Rattle.model.specs.Sheet.{sheetReading}
-use Rattle.sheet.specs.Layout.{actionsOf}
-use Rattle.sheet.specs.Decode.{decode}
+use Rattle.sheet_bytes.specs.Layout.{actionsOf}
+use Rattle.sheet_bytes.specs.Decode.{decode}
 use Rattle.sheet.specs.Check.{sheetCheck}
 
 -- the sheet is checked, then the sequence and the buffer

@@ -8,7 +8,7 @@ use native.Mathlib.Omega.{arith}
 use native.Mathlib.Nat.{eq-or-lt-of-le}
 use native.Mathlib.Numerals.{add-one}
 use lib.Dec.{eqb}
-use lib.ListN.{length, getD, take, drop}
+use lib.ListN.{getD}
 use borrow.Author.Tests.{eq-eqb, ne-eqb}
 use Rattle.integers.specs.LittleEndian.{Bytes}
 use Rattle.systems.specs.Search.{run}
@@ -21,22 +21,23 @@ use Rattle.model.specs.declared.Rule.{Rule}
 use Rattle.model.specs.Sheet.{RuleFits, Each, MoveFits, open-fits, Open as opened}
 use Rattle.model.specs.Blocks.{volume, preimage, cuts, emptied}
 use Rattle.model.specs.Boxes.{emptied-none}
-use Rattle.sheet.specs.declared.Shape.{Shape}
-use Rattle.sheet.specs.declared.Ranges.{Ranges}
-use Rattle.sheet.specs.declared.RegionBox.{RegionBox}
-use Rattle.sheet.specs.declared.RegionMove.{RegionMove}
-use Rattle.sheet.specs.declared.Move.{Move}
-use Rattle.sheet.specs.declared.Move.the-variants.{Barred, Open}
-use Rattle.sheet.specs.Layout.{countersOf, actionsOf, regionsOf, stateAt, movePlace, movePart}
-use Rattle.sheet.specs.Decode.{listed, rangeAt, boxAt, ruleAt, moveAt}
-use Rattle.sheet.specs.Shape.{Shaped}
+use Rattle.model.specs.Finite.{volume-none}
+use Rattle.sheet_bytes.specs.declared.Ranges.{Ranges}
+use Rattle.sheet_bytes.specs.declared.RegionBox.{RegionBox}
+use Rattle.sheet_bytes.specs.declared.RegionMove.{RegionMove}
+use Rattle.sheet_bytes.specs.declared.Move.{Move}
+use Rattle.sheet_bytes.specs.declared.Move.the-variants.{Barred, Open}
+use Rattle.sheet_bytes.specs.Layout.{countersOf, actionsOf, regionsOf, stateAt, movePlace, movePart}
+use Rattle.sheet_bytes.specs.Decode.{listed, rangeAt, boxAt, ruleAt, moveAt}
+use Rattle.sheet_bytes.specs.Shape.{Shaped}
+use Rattle.sheet_bytes.specs.Fields.{rest}
+use Rattle.sheet_bytes.specs.Three.{rangesThree, rulesThree, boxThree, moveThree, moveOfKind, moveMeant, move-meant, rulesMeant, firsts-padded, zeroRule}
+use Rattle.sheet_bytes.specs.Cuts.{allThree, cutsThree}
+use Rattle.sheet_bytes.specs.Bounds.{RangesWithin, RulesFit, box-within, rules-fit}
+use Rattle.sheet_form.specs.Fits.{moves-fit}
 use Rattle.sheet.specs.Check.{checkLanding}
-use Rattle.sheet.specs.Fields.{rest}
-use Rattle.sheet.specs.Three.{Read, rangesThree, rulesThree, boxThree, moveThree, moveOfKind, moveMeant, move-meant, rulesMeant, firsts-padded, zeroRule}
-use Rattle.sheet.specs.Counting.{sum, volume-none}
-use Rattle.sheet.specs.Fits.{moves-fit}
-use Rattle.sheet.specs.Cuts.{allThree, cutsThree, shareThree, cuts-volume, ranges-volume}
-use Rattle.sheet.specs.Bounded.{RangesWithin, RulesFit, box-within, rules-fit}
+use Rattle.sheet.specs.Counting.{sum}
+use Rattle.sheet.specs.Volumes.{shareThree, cuts-volume, ranges-volume}
 use Rattle.sheet.specs.Landing.{share, shares, shares-le, Passed, landsAll, lands-check, barred-lands, open-lands}
 
 -- the shares of the regions below n
@@ -164,13 +165,6 @@ module _ (s : List ℕ) (S : Shaped s) (b : Bytes s) (P : Passed s) (i a : ℕ) 
       ap (λ (m : RegionMove). sharesThree s (boxThree s i .ranges) m (regionsOf s)) e in
       left-none r (shares s i (getD (movePart s i a) 1 0) (listed (ruleAt (movePart s i a)) (countersOf s)) (regionsOf s)) (volume (boxAt s i .ranges)) (omega arith)
       ∙ sym (open-lands s S b P i a (getD (movePart s i a) 1 0) (listed (ruleAt (movePart s i a)) (countersOf s)) h k (is-open d))
-
--- the code reads the move record from the part of the sheet that starts with it
-pub part-read : {s : List ℕ} {shape : Shape} → Read s shape → (i a p : ℕ) (m : RegionMove) → p ≡ movePlace s i a
-    → m ≡ moveThree (shape .counters) (take (length s - p) (drop p s)) → m ≡ moveThree (countersOf s) (movePart s i a)
-part-read {s} {shape} R i a p m e d =
-    let n = R .counters-are in
-    d ∙ ap (moveThree (shape .counters)) (rest p s) ∙ ap (λ (k : ℕ). moveThree k (drop p s)) n ∙ ap (λ (k : ℕ). moveThree (countersOf s) (drop k s)) e
 
 -- one move, as a stage of the check
 pub lands-fine : (s : List ℕ) (i a : ℕ) (r : Bool) → r ≡ landsAll s i a → r ≡ true → checkLanding s i a ≡ Fine

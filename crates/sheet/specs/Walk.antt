@@ -25,22 +25,22 @@ use Rattle.model.specs.Sheet as Model
 use Rattle.model.specs.Sheet.{Configuration, Box, Region, Covered, WellFormed, within, inBox, applied, moved, step, regionOf, regionNumber, sheetSystem, sheetReading, RuleFits, Each, MoveFits, open-fits}
 use Rattle.model.specs.Boxes.{inBox-parts}
 use Rattle.model.specs.Classes.{covered-in}
-use Rattle.sheet.specs.declared.Shape.{Shape}
-use Rattle.sheet.specs.declared.Ranges.{Ranges}
-use Rattle.sheet.specs.declared.Values.{Values}
-use Rattle.sheet.specs.declared.Config.{Config}
-use Rattle.sheet.specs.declared.Move.{Move}
-use Rattle.sheet.specs.declared.Move.the-variants.{Barred, Open}
-use Rattle.sheet.specs.declared.RegionMove.{RegionMove}
-use Rattle.sheet.specs.Layout.{countersOf, actionsOf, regionsOf, startValue, labelAt, movePart}
-use Rattle.sheet.specs.Decode.{ruleAt, moveAt, regionAt, startOf, decode}
+use Rattle.sheet_bytes.specs.declared.Shape.{Shape}
+use Rattle.sheet_bytes.specs.declared.Ranges.{Ranges}
+use Rattle.sheet_bytes.specs.declared.Values.{Values}
+use Rattle.sheet_bytes.specs.declared.Config.{Config}
+use Rattle.sheet_bytes.specs.declared.Move.{Move}
+use Rattle.sheet_bytes.specs.declared.Move.the-variants.{Barred, Open}
+use Rattle.sheet_bytes.specs.declared.RegionMove.{RegionMove}
+use Rattle.sheet_bytes.specs.Layout.{countersOf, actionsOf, regionsOf, startValue, labelAt, movePart}
+use Rattle.sheet_bytes.specs.Decode.{ruleAt, moveAt, regionAt, startOf, decode}
+use Rattle.sheet_bytes.specs.Three.{Read, firsts, rangesMeant, valuesMeant, rulesMeant, boxMeant, configMeant, moveMeant, moveOfKind, padded, padded-out, zeroRule, boxThree, startThree, moveThree, box-meant, start-meant, move-meant}
+use Rattle.sheet_bytes.specs.Space.{RulesSafe, ValuesWithin, allThree, landThree, land-meant, fits-safe}
+use Rattle.sheet_bytes.specs.Bounds.{RangesWithin, box-within}
+use Rattle.sheet_form.specs.Fits.{moves-fit}
 use Rattle.sheet.specs.Check.{sheetCheck}
-use Rattle.sheet.specs.Three.{Read, firsts, rangesMeant, valuesMeant, rulesMeant, boxMeant, configMeant, moveMeant, moveOfKind, padded, padded-out, zeroRule, boxThree, startThree, moveThree, box-meant, start-meant, move-meant}
-use Rattle.sheet.specs.Space.{RulesSafe, ValuesWithin, allThree, landThree, land-meant, fits-safe}
-use Rattle.sheet.specs.Bounded.{RangesWithin, box-within}
 use Rattle.sheet.specs.Landing.{Passed}
 use Rattle.sheet.specs.Shares.{countable}
-use Rattle.sheet.specs.Fits.{moves-fit}
 use Rattle.sheet.specs.Accepted.{Stages, stages, regions-count, region-is, box-is, step-is, accepted}
 use Rattle.sheet.specs.RunSheet.{sheetRunCheck}
 

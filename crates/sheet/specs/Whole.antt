@@ -9,11 +9,12 @@ use Rattle.systems.specs.Laws.{is-true, both}
 use Rattle.answers.specs.declared.Checked.{Checked}
 use Rattle.answers.specs.declared.Checked.the-variants.{Fine}
 use Rattle.answers.specs.Stages.{andThen, demand, each, then-fine}
-use Rattle.sheet.specs.declared.Shape.{Shape}
-use Rattle.sheet.specs.Layout.{sheetMark, countersOf, actionsOf, regionsOf}
-use Rattle.sheet.specs.Check.{sameBytes, from-to, checkHeader, checkCounts, checkFields, checkLabel, checkOverlap, checkStart, checkLanding}
-use Rattle.sheet.specs.Shape.{Shaped}
-use Rattle.sheet.specs.Three.{Read, shapeOf}
+use Rattle.sheet_bytes.specs.declared.Shape.{Shape}
+use Rattle.sheet_bytes.specs.Layout.{sheetMark, countersOf, actionsOf, regionsOf}
+use Rattle.sheet_bytes.specs.Shape.{Shaped}
+use Rattle.sheet_bytes.specs.Three.{Read, shapeOf}
+use Rattle.sheet_form.specs.Form.{sameBytes, from-to, checkHeader, checkCounts, checkFields}
+use Rattle.sheet.specs.Check.{checkLabel, checkOverlap, checkStart, checkLanding}
 use Rattle.sheet.specs.Accepted.{between, demanded}
 
 -- 4 to 8

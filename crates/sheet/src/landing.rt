@@ -2,105 +2,28 @@
 // within the region add up to its volume exactly when every configuration lands. The time goes by the number of regions.
 ghost use mathlib.Core.Path.{_≡_};
 ghost use Prim.Native.Nat.{_+_, _<_};
-ghost use Rattle.integers.specs.Range.{RangeWithin};
 ghost use Rattle.answers.specs.Stages.{each};
-ghost use Rattle.model.specs.Sheet.{RuleFits};
 ghost use Rattle.model.specs.Blocks.{volume};
-ghost use Rattle.sheet.specs.Layout.{actionsOf, regionsOf};
+ghost use Rattle.sheet_bytes.specs.Layout.{actionsOf, regionsOf};
+ghost use Rattle.sheet_bytes.specs.Three.{Read};
+ghost use Rattle.sheet_bytes.specs.Cuts.{allThree};
+ghost use Rattle.sheet_bytes.specs.Bounds.{RangesWithin, RulesFit};
 ghost use Rattle.sheet.specs.Check.{checkLanding};
-ghost use Rattle.sheet.specs.Three.{Read};
-ghost use Rattle.sheet.specs.Cuts.{allThree, narrowThree, emptyThree, cutThree, cutsThree, shareThree};
-ghost use Rattle.sheet.specs.Bounded.{TightThree, RangesWithin, RulesFit};
+ghost use Rattle.sheet.specs.Volumes.{shareThree};
+ghost use Rattle.sheet.specs.Tight.{TightThree};
 ghost use Rattle.sheet.specs.Landing.{Passed, landsAll};
 ghost use Rattle.sheet.specs.Shares.{sharesThree, Countable};
-use crate::Move;
-use crate::Ranges;
-use crate::RegionBox;
-use crate::RegionMove;
-use crate::Rules;
-use crate::Shape;
-use crate::fields::box_at;
-use crate::fields::move_at;
-use crate::fields::move_place;
 use answers::Checked;
-use integers::Range;
-use integers::division::inverse_range;
-use integers::ranges::common;
 use integers::ranges::count;
-use integers::ranges::has;
-use model::Rule;
-
-// The ranges, with that of one counter cut by another range.
-fn narrow(source: usize, q: Range, b: Ranges) -> Ranges
-    ensures { λ r. ⌜ r ≡ narrowThree source q b ⌝ }
-{
-    let first = b.first;
-    let second = b.second;
-    let third = b.third;
-    if source == 0 {
-        let cut = common(first, q);
-        Ranges {
-            first: cut,
-            second,
-            third,
-        }
-    } else if source == 1 {
-        let cut = common(second, q);
-        Ranges {
-            first,
-            second: cut,
-            third,
-        }
-    } else {
-        let cut = common(third, q);
-        Ranges {
-            first,
-            second,
-            third: cut,
-        }
-    }
-}
-
-// Ranges that hold nothing.
-fn nothing() -> Ranges
-    ensures { λ r. ⌜ r ≡ emptyThree ⌝ }
-{
-    Ranges {
-        first: Range { low: 1, high: 0 },
-        second: Range { low: 1, high: 0 },
-        third: Range { low: 1, high: 0 },
-    }
-}
-
-// The old values within b that a rule takes into the wanted range.
-fn cut_by(rule: Rule, wanted: Range, b: Ranges) -> Ranges
-    requires { ⌜ RuleFits 3 rule ⌝ }
-    requires { ⌜ RangeWithin 1000000 wanted ⌝ }
-    ensures { λ r. ⌜ r ≡ cutThree rule wanted b ⌝ }
-{
-    match rule {
-        Rule::Set { offset } => if has(wanted, offset) { b } else { nothing() },
-        Rule::Carry {
-            source,
-            factor,
-            offset,
-        } => narrow(source, inverse_range(factor, offset, wanted), b),
-    }
-}
-
-// The same for each rule and its counter's wanted range.
-pub fn cut_by_all(rules: Rules, wanted: Ranges, b: Ranges) -> Ranges
-    requires { ⌜ RulesFit rules ⌝ }
-    requires { ⌜ RangesWithin 1000000 wanted ⌝ }
-    ensures { λ r. ⌜ r ≡ cutsThree rules wanted b ⌝ }
-{
-    let first = rules.first;
-    let second = rules.second;
-    let third = rules.third;
-    let one = cut_by(first, wanted.first, b);
-    let two = cut_by(second, wanted.second, one);
-    cut_by(third, wanted.third, two)
-}
+use sheet_bytes::Move;
+use sheet_bytes::Ranges;
+use sheet_bytes::RegionBox;
+use sheet_bytes::RegionMove;
+use sheet_bytes::Shape;
+use sheet_bytes::cutting::cut_by_all;
+use sheet_bytes::fields::box_at;
+use sheet_bytes::fields::move_at;
+use sheet_bytes::fields::move_place;
 
 // How many value lists the ranges hold.
 fn volume_of(b: Ranges) -> u64
@@ -138,7 +61,7 @@ fn uncovered(s: &[u8], shape: Shape, b: Ranges, m: RegionMove) -> u64
 }
 
 // Whether action a takes every configuration of region i into some region, or is barred there.
-pub fn lands_all(s: &[u8], shape: Shape, i: usize, a: usize) -> bool
+pub(crate) fn lands_all(s: &[u8], shape: Shape, i: usize, a: usize) -> bool
     requires { ⌜ Read (now s) shape ⌝ }
     requires { ⌜ Passed (now s) ⌝ }
     requires { ⌜ (i < shape .regions) × (a < shape .actions) ⌝ }
@@ -154,7 +77,7 @@ pub fn lands_all(s: &[u8], shape: Shape, i: usize, a: usize) -> bool
 }
 
 // 8: the first open move that takes some configuration of its region into no region.
-pub fn check_landing(s: &[u8], shape: Shape) -> Checked
+pub(crate) fn check_landing(s: &[u8], shape: Shape) -> Checked
     requires { ⌜ Read (now s) shape ⌝ }
     requires { ⌜ Passed (now s) ⌝ }
     ensures { λ r. ⌜ r ≡ each (λ i. each (checkLanding (now (s .entry)) i) (actionsOf (now (s .entry)))) (regionsOf (now (s .entry))) ⌝ }

@@ -1,83 +1,31 @@
 // Sheets as bytes (document 01, "The sheet, mark MSH"): checking one, and running an action sequence on it.
+// Public: no function asks anything of its caller, and each contract gives the answer as a definition does.
 ghost use mathlib.Core.Path.{_≡_};
 ghost use lib.ListN.{length};
+ghost use Rattle.sheet_bytes.specs.Three.{Read};
 ghost use Rattle.sheet.specs.Check.{sheetCheck};
 ghost use Rattle.sheet.specs.Whole.{contentsCheck};
-ghost use Rattle.sheet.specs.Three.{Read};
 ghost use Rattle.sheet.specs.RunSheet.{sheetRunCheck, sheetRan, sheetLeft};
 use answers::Checked;
 use answers::Ran;
 use answers::sequence::check_sequence;
-use integers::Range;
-use model::Rule;
+use sheet_bytes::Shape;
+use sheet_bytes::fields::shape_of;
+use sheet_form::header::check_counts;
+use sheet_form::header::check_header;
+use sheet_form::header::check_length;
+use sheet_form::limits::check_limits;
 
-pub mod fields;
-mod header;
-pub mod landing;
-mod limits;
-pub mod regions;
-pub mod space;
+mod landing;
+mod regions;
 mod walk;
-
-// The three counts of a sheet: V, A and R.
-pub struct Shape {
-    pub counters: usize,
-    pub actions: usize,
-    pub regions: usize,
-}
-
-// A range for each counter. One that the sheet lacks has 0..0.
-pub struct Ranges {
-    pub first: Range,
-    pub second: Range,
-    pub third: Range,
-}
-
-// The box of a region: its state, and a range for each counter.
-pub struct RegionBox {
-    pub state: u8,
-    pub ranges: Ranges,
-}
-
-// A value for each counter. One that the sheet lacks has 0.
-pub struct Values {
-    pub first: i64,
-    pub second: i64,
-    pub third: i64,
-}
-
-// A configuration: a state, and a value for each counter.
-pub struct Config {
-    pub state: u8,
-    pub values: Values,
-}
-
-// In each region each action is barred, or open.
-pub enum Move {
-    Barred,
-    Open,
-}
-
-// A rule for each counter. One that the sheet lacks is set to 0.
-pub struct Rules {
-    pub first: Rule,
-    pub second: Rule,
-    pub third: Rule,
-}
-
-// What an action does in a region. Of a barred move, kind alone means anything.
-pub struct RegionMove {
-    pub kind: Move,
-    pub target: u8,
-    pub rules: Rules,
-}
 
 // 4 to 8, of a sheet that passed 1 to 3.
 fn check_contents(s: &[u8], shape: Shape) -> Checked
     requires { ⌜ Read (now s) shape ⌝ }
     ensures { λ r. ⌜ r ≡ contentsCheck (now (s .entry)) ⌝ }
 {
-    let limits = limits::check_limits(s, shape);
+    let limits = check_limits(s, shape);
     let Checked::Fine = limits else {
         return limits;
     };
@@ -100,19 +48,19 @@ fn check_contents(s: &[u8], shape: Shape) -> Checked
 pub fn check(s: &[u8]) -> Checked
     ensures { λ r. ⌜ r ≡ sheetCheck (now (s .entry)) ⌝ }
 {
-    let header = header::check_header(s);
+    let header = check_header(s);
     let Checked::Fine = header else {
         return header;
     };
-    let counts = header::check_counts(s);
+    let counts = check_counts(s);
     let Checked::Fine = counts else {
         return counts;
     };
-    let length = header::check_length(s);
+    let length = check_length(s);
     let Checked::Fine = length else {
         return length;
     };
-    check_contents(s, fields::shape_of(s))
+    check_contents(s, shape_of(s))
 }
 
 // All refusals of a run: the sheet's, then those of the sequence and the buffer.
@@ -123,7 +71,7 @@ fn check_run(s: &[u8], actions: &[u8], room: usize) -> Checked
     let Checked::Fine = sheet else {
         return sheet;
     };
-    let shape = fields::shape_of(s);
+    let shape = shape_of(s);
     check_sequence(actions, shape.actions, room)
 }
 
@@ -134,7 +82,7 @@ pub fn run(s: &[u8], actions: &[u8], labels: &mut [u16]) -> Ran
 {
     let checked = check_run(s, actions, labels.len());
     let Checked::Refused { number, returned } = checked else {
-        return walk::walk(s, fields::shape_of(s), actions, labels);
+        return walk::walk(s, shape_of(s), actions, labels);
     };
     Ran::Refused { number, returned }
 }

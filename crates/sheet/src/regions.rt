@@ -1,44 +1,26 @@
 // Regions against one another, and the start: refusals 5, 6 and 7.
 ghost use mathlib.Core.Path.{_≡_};
 ghost use mathlib.Core.Bool.{not};
-ghost use Prim.Native.Nat.{_<_, _≤_};
+ghost use Prim.Native.Nat.{_<_};
 ghost use lib.Dec.{eqb};
 ghost use Rattle.integers.specs.Range.{vacant, meet};
 ghost use Rattle.systems.specs.Search.{any, all};
 ghost use Rattle.answers.specs.Stages.{each};
-ghost use Rattle.sheet.specs.Layout.{countersOf, regionsOf, labelAt, stateAt};
-ghost use Rattle.sheet.specs.Decode.{rangeAt};
+ghost use Rattle.sheet_bytes.specs.Layout.{countersOf, regionsOf, labelAt};
+ghost use Rattle.sheet_bytes.specs.Decode.{rangeAt};
+ghost use Rattle.sheet_bytes.specs.Three.{Read};
 ghost use Rattle.sheet.specs.Check.{overlap, checkLabel, checkOverlap, checkStart};
-ghost use Rattle.sheet.specs.Three.{Read};
-use crate::Shape;
-use crate::fields::range_at;
-use crate::fields::region_place;
-use crate::fields::start_of;
-use crate::space::region_of;
 use answers::Checked;
 use answers::demanded;
-use integers::bytes::unsigned16;
 use integers::ranges::common;
 use integers::ranges::is_vacant;
-
-// The label of region i.
-pub fn label_at(s: &[u8], shape: Shape, i: usize) -> u16
-    requires { ⌜ Read (now s) shape ⌝ }
-    requires { ⌜ i < shape .regions ⌝ }
-    ensures { λ r. ⌜ r ≡ labelAt (now (s .entry)) i ⌝ }
-{
-    unsigned16(s, region_place(s, shape, i))
-}
-
-// The state of region i.
-fn state_at(s: &[u8], shape: Shape, i: usize) -> u8
-    requires { ⌜ Read (now s) shape ⌝ }
-    requires { ⌜ i < shape .regions ⌝ }
-    ensures { λ r. ⌜ r ≡ stateAt (now (s .entry)) i ⌝ }
-{
-    let at = region_place(s, shape, i) + 2;
-    s[at]
-}
+use sheet_bytes::Shape;
+use sheet_bytes::fields::label_at;
+use sheet_bytes::fields::range_at;
+use sheet_bytes::fields::region_place;
+use sheet_bytes::fields::start_of;
+use sheet_bytes::fields::state_at;
+use sheet_bytes::space::region_of;
 
 // Whether an earlier region has the label of region j.
 fn label_seen(s: &[u8], shape: Shape, j: usize) -> bool
@@ -124,7 +106,7 @@ fn check_overlap(s: &[u8], shape: Shape, j: usize) -> Checked
 }
 
 // 5: a label that an earlier region has.
-pub fn check_labels(s: &[u8], shape: Shape) -> Checked
+pub(crate) fn check_labels(s: &[u8], shape: Shape) -> Checked
     requires { ⌜ Read (now s) shape ⌝ }
     ensures { λ r. ⌜ r ≡ each (checkLabel (now (s .entry))) (regionsOf (now (s .entry))) ⌝ }
 {
@@ -139,7 +121,7 @@ pub fn check_labels(s: &[u8], shape: Shape) -> Checked
 }
 
 // 6: a region that shares a configuration with an earlier one.
-pub fn check_overlaps(s: &[u8], shape: Shape) -> Checked
+pub(crate) fn check_overlaps(s: &[u8], shape: Shape) -> Checked
     requires { ⌜ Read (now s) shape ⌝ }
     ensures { λ r. ⌜ r ≡ each (checkOverlap (now (s .entry))) (regionsOf (now (s .entry))) ⌝ }
 {
@@ -154,7 +136,7 @@ pub fn check_overlaps(s: &[u8], shape: Shape) -> Checked
 }
 
 // 7: the start is in no region.
-pub fn check_start(s: &[u8], shape: Shape) -> Checked
+pub(crate) fn check_start(s: &[u8], shape: Shape) -> Checked
     requires { ⌜ Read (now s) shape ⌝ }
     ensures { λ r. ⌜ r ≡ checkStart (now (s .entry)) ⌝ }
 {

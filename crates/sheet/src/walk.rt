@@ -5,22 +5,22 @@ ghost use lib.ListN.{length, getD};
 ghost use Rattle.answers.specs.declared.Checked.the-variants.{Fine};
 ghost use Rattle.answers.specs.Run.{ranBy, leftBy};
 ghost use Rattle.model.specs.Sheet.{sheetReading};
-ghost use Rattle.sheet.specs.Layout.{actionsOf};
-ghost use Rattle.sheet.specs.Decode.{decode};
+ghost use Rattle.sheet_bytes.specs.Layout.{actionsOf};
+ghost use Rattle.sheet_bytes.specs.Decode.{decode};
+ghost use Rattle.sheet_bytes.specs.Three.{Read};
 ghost use Rattle.sheet.specs.Check.{sheetCheck};
-ghost use Rattle.sheet.specs.Three.{Read};
-use crate::Move;
-use crate::Shape;
-use crate::fields::move_at;
-use crate::fields::start_of;
-use crate::regions::label_at;
-use crate::space::land;
-use crate::space::region_of;
 use answers::Ending;
 use answers::Ran;
+use sheet_bytes::Move;
+use sheet_bytes::Shape;
+use sheet_bytes::fields::label_at;
+use sheet_bytes::fields::move_at;
+use sheet_bytes::fields::start_of;
+use sheet_bytes::space::land;
+use sheet_bytes::space::region_of;
 
 // Writes the label of the start and the label after each action, up to the first barred one.
-pub fn walk(s: &[u8], shape: Shape, actions: &[u8], labels: &mut [u16]) -> Ran
+pub(crate) fn walk(s: &[u8], shape: Shape, actions: &[u8], labels: &mut [u16]) -> Ran
     requires { ⌜ Read (now s) shape ⌝ }
     requires { ⌜ sheetCheck (now s) ≡ Fine ⌝ }
     requires { ⌜ ((n : ℕ) → n < length (now actions) → getD (now actions) n 0 < actionsOf (now s)) ⌝ }

@@ -39,9 +39,9 @@ unfoldable pub seen : {X : Type 0} → System X → (X → X → Bool) → ℕ �
 seen s same actions start i a = visited s same (explore s same actions start i) (getD (explore s same actions start i) i start) a
 
 -- how many are named once a target is named, or none is
-unfoldable pub named : ℕ → Option ℕ → ℕ
-named c none = c
-named c (some t) = max c (suc t)
+unfoldable pub grown : ℕ → Option ℕ → ℕ
+grown c none = c
+grown c (some t) = max c (suc t)
 
 -- member j was first named by action `by` from the earlier member `from`, as the next number
 pub record Named {X : Type 0} (s : System X) (same : X → X → Bool) (actions : ℕ) (start : X) (n j : ℕ) : Type 0 where
@@ -314,8 +314,8 @@ module _ {X : Type 0} (s : System X) (same : X → X → Bool) (actions : ℕ) (
   -- and the number of those named grows by one where it is just that
   pub seen-next : (n i a : ℕ) → i < n → i < length (explore s same actions start n)
       → length (seen s same actions start i (suc a))
-      ≡ named (length (seen s same actions start i a)) (Option·map (place same (explore s same actions start n)) (s .step a (getD (explore s same actions start n) i start)))
-  unfolding seen visited added named
+      ≡ grown (length (seen s same actions start i a)) (Option·map (place same (explore s same actions start n)) (s .step a (getD (explore s same actions start n) i start)))
+  unfolding seen visited added grown
   seen-next n i a h b = go (s .step a x) refl
     where
       x : X
@@ -327,7 +327,7 @@ module _ {X : Type 0} (s : System X) (same : X → X → Bool) (actions : ℕ) (
       stays : getD (explore s same actions start n) i start ≡ x
       stays = member-stays n i (omega arith) b
 
-      one : (o : Option X) → s .step a x ≡ o → length (added same v o) ≡ named (length v) (Option·map (place same (explore s same actions start n)) o)
+      one : (o : Option X) → s .step a x ≡ o → length (added same v o) ≡ grown (length v) (Option·map (place same (explore s same actions start n)) o)
       one none e = refl
       one (some y) e =
           let q : place same (explore s same actions start n) y ≡ place same v y = step-seen n i a y h b (ap (s .step a) stays ∙ e) .1 in
@@ -337,11 +337,11 @@ module _ {X : Type 0} (s : System X) (same : X → X → Bool) (actions : ℕ) (
           (told (known same v y))
 
       go : (o : Option X) → s .step a x ≡ o
-          → length (added same v (s .step a x)) ≡ named (length v) (Option·map (place same (explore s same actions start n)) (s .step a (getD (explore s same actions start n) i start)))
+          → length (added same v (s .step a x)) ≡ grown (length v) (Option·map (place same (explore s same actions start n)) (s .step a (getD (explore s same actions start n) i start)))
       go o e =
           ap (λ (u : Option X). length (added same v u)) e
           ∙ one o e
-          ∙ ap (λ (u : Option X). named (length v) (Option·map (place same (explore s same actions start n)) u)) (sym (ap (s .step a) stays ∙ e))
+          ∙ ap (λ (u : Option X). grown (length v) (Option·map (place same (explore s same actions start n)) u)) (sym (ap (s .step a) stays ∙ e))
 
   visited-origin : (l : List X) (x : X) (a j : ℕ) → length l ≤ j → j < length (visited s same l x a)
       → (b : ℕ) × (b < a) × (s .step b x ≡ some (getD (visited s same l x a) j start)) × (length (visited s same l x b) ≡ j)

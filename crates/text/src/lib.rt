@@ -1,4 +1,5 @@
 // Text on standard output, for the programs. What a program writes is tested, not proved.
+// Internal: serves sister crates; a function may ask what its callers have made sure of.
 use answers::Checked;
 use answers::Ending;
 use answers::Ran;

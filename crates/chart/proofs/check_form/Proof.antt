@@ -1,7 +1,7 @@
 use mathlib.Core.Path.{sym, _∙_}
 use Rattle.answers.specs.Stages.{andThen, passed, handed}
+use Rattle.chart_bytes.specs.HeaderLaws.{header-passed}
 use Rattle.chart.specs.Check.{targetsCheck, numbersCheck, barsCheck, formCheck}
-use Rattle.chart.specs.Header.{header-passed}
 use borrow.Author.Needs.{needs}
 use Rattle.chart.proofs.check_form.Statement.{statement}
 use Rattle.chart.proofs.check_form.Tie as tie

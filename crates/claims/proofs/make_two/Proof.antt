@@ -1,5 +1,5 @@
 use Rattle.integers.specs.LittleEndian.{Bytes}
-use Rattle.claims.specs.Claims.{demand-2-of, demand-3-of}
+use Rattle.claims.specs.Proofs.{demand-2-of, demand-3-of}
 use borrow.Author.Needs.{needs}
 use Rattle.claims.proofs.make_two.Statement.{statement}
 use Rattle.claims.proofs.make_two.Tie as tie
@@ -37,8 +37,8 @@ returns c =
     let two = c .before .before .before .before .make2 .ensures in (
       demand-3-of s t chart₁ list₁ chart₂ list₂ B D (one .0) (two .0) (one .1 .0) (two .1 .0),
       (
-        (demand-2-of s chart₁ list₁ B (one .0) (one .1 .0), demand-2-of t chart₂ list₂ D (two .0) (two .1 .0)),
-        (one .0, (one .1 .0, (one .1 .1, (two .0, (two .1 .0, two .1 .1))))),
+        demand-2-of s chart₁ list₁ B (one .0) (one .1 .0) (one .1 .1),
+        (demand-2-of t chart₂ list₂ D (two .0) (two .1 .0) (two .1 .1), (one .0, (one .1 .0, (one .1 .1, (two .0, (two .1 .0, two .1 .1)))))),
       ),
     )
 

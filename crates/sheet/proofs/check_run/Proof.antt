@@ -1,11 +1,10 @@
 use mathlib.Core.Path.{sym, ap, _∙_}
-use Prim.Native.Nat.{ℕ}
 use native.Mathlib.Omega.{arith}
 use Rattle.answers.specs.Stages.{stop, go-on}
 use Rattle.answers.specs.Run.{runChecks}
-use Rattle.sheet.specs.declared.Shape.{Shape}
-use Rattle.sheet.specs.Layout.{actionsOf}
-use Rattle.sheet.specs.Shape.{header-end}
+use Rattle.sheet_bytes.specs.declared.Shape.{Shape}
+use Rattle.sheet_bytes.specs.Layout.{actionsOf}
+use Rattle.sheet_bytes.specs.Shape.{header-end}
 use Rattle.sheet.specs.Accepted.{stages}
 use Rattle.sheet.specs.RunSheet.{sheetRunCheck}
 use borrow.Author.Needs.{needs}

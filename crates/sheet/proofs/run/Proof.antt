@@ -3,8 +3,8 @@ use native.Mathlib.Omega.{arith}
 use lib.ListN.{length}
 use Rattle.answers.specs.Walk.{run-done, run-refused}
 use Rattle.model.specs.Sheet.{sheetReading}
-use Rattle.sheet.specs.Decode.{decode}
-use Rattle.sheet.specs.Shape.{header-end}
+use Rattle.sheet_bytes.specs.Decode.{decode}
+use Rattle.sheet_bytes.specs.Shape.{header-end}
 use Rattle.sheet.specs.Accepted.{stages}
 use Rattle.sheet.specs.Whole.{read-shape}
 use Rattle.sheet.specs.Walk.{run-passed}

@@ -1,13 +1,13 @@
 use borrow.Author.Needs.{needs}
 use mathlib.Core.Path.{_≡_, sym, _∙_}
 use mathlib.Core.Bool.{true}
-use Prim.Native.Nat.{_+_, _-_, _≤_}
+use Prim.Native.Nat.{_-_, _≤_}
 use native.Mathlib.Omega.{arith}
 use borrow.Author.Tests.{not-true, not-false}
 use Rattle.systems.specs.Search.{all}
+use Rattle.answers.specs.Loops.{all-none, all-more, all-stop, all-ended}
 use Rattle.model.specs.Chart.{actionsOf, targetOf}
 use Rattle.chart.specs.Check.{sameBar, sameBars}
-use Rattle.answers.specs.Loops.{all-none, all-more, all-stop, all-ended}
 use Rattle.chart.specs.Records.{bar-at}
 use Rattle.chart.proofs.bars.same_bars.Statement.{statement}
 use Rattle.chart.proofs.bars.same_bars.Tie as tie

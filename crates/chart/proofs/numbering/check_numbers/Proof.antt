@@ -1,11 +1,11 @@
 use borrow.Author.Needs.{needs}
-use mathlib.Core.Path.{_≡_, sym, ap, _∙_}
-use Prim.Native.Nat.{_+_, _-_, _≤_}
+use mathlib.Core.Path.{_≡_, ap, _∙_}
+use Prim.Native.Nat.{_-_, _≤_}
 use native.Mathlib.Omega.{arith}
 use Rattle.answers.specs.declared.Checked.the-variants.{Fine}
 use Rattle.answers.specs.Stages.{each, each-none}
 use Rattle.answers.specs.Loops.{each-passed, each-refused, each-ended}
-use Rattle.model.specs.Chart.{actionsOf, blocksOf, nextUnnamed}
+use Rattle.model.specs.Chart.{blocksOf, nextUnnamed}
 use Rattle.chart.specs.Check.{numberCheck, numbersCheck}
 use Rattle.chart.specs.Records.{unnamed-none, unnamed-more}
 use Rattle.chart.proofs.numbering.check_numbers.Statement.{statement}

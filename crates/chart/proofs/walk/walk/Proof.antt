@@ -1,6 +1,6 @@
-use Prim.Native.Nat.{_+_, _-_, _≤_, _<_}
+use Prim.Native.Nat.{_-_, _≤_}
 use native.Mathlib.Omega.{arith}
-use lib.ListN.{length, getD, set, length-set}
+use lib.ListN.{getD, set, length-set}
 use Rattle.chart.specs.Walk.{Walk, walk-start, walk-old, open-target, walk-step, walk-barred, walk-whole}
 use Rattle.chart.proofs.walk.walk.Statement.{statement}
 use Rattle.chart.proofs.walk.walk.Tie as tie
@@ -52,7 +52,7 @@ label-of-requires-2 : tie.Need-label-of-requires-2 Inv-loop μ-loop
 label-of-requires-2 c κs =
     let s = c .before .before .before .before .before .before .before .before .before in
     let l = c .before .before .before .before .loop in
-    (s .pre .0, open-target (s .args .c .now) (s .pre .1 .0) (l .block) (getD (s .args .actions .now) (l .i) 0) (c .before .target-of .result) (l .inv .1 .block-there) (c .before .before .before .before .before .before .before .before .before .pre .1 .1 .0 (c .before .before .before .before .loop .i) (omega arith)) (c .before .target-of .ensures .0) (c .if1 .left))
+    (s .pre .0, omega (arith, s .pre .0 .blocks-some, open-target (s .args .c .now) (s .pre .1 .0) (l .block) (getD (s .args .actions .now) (l .i) 0) (c .before .target-of .result) (l .inv .1 .block-there) (c .before .before .before .before .before .before .before .before .before .pre .1 .1 .0 (c .before .before .before .before .loop .i) (omega arith)) (c .before .target-of .ensures .0) (c .if1 .left)))
 
 add-labels : tie.Need-add-labels Inv-loop μ-loop
 add-labels c = omega arith

@@ -1,9 +1,7 @@
-use mathlib.Core.Path.{_∙_, ap}
 use lib.IntN.{pos, _-ℤ_}
 use mir.Syntax.{w64}
 use mir.Val.{SFits}
 use mir.ValLaws.{toZ-ofZ}
-use Rattle.integers.specs.Division.{floor}
 use Rattle.integers.specs.Quotient.{minus-fits, within-neg, ceiling-machine, minus-floor-fits}
 use Rattle.integers.proofs.division.divide_up.Statement.{statement}
 use Rattle.integers.proofs.division.divide_up.Tie as tie

@@ -1,4 +1,3 @@
-use lib.IntN.{_-ℤ_, _+ℤ_, pos}
 use mir.Syntax.{w64}
 use mir.Val.{SFits}
 use mir.ValLaws.{toZ-ofZ}

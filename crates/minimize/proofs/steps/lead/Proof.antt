@@ -1,7 +1,7 @@
 use native.Mathlib.Omega.{arith}
 use Prim.Native.Nat.{_+_, _*_, _<_}
 use mathlib.Core.Path.{refl, _∙_}
-use Rattle.sheet.specs.Space.{landThree}
+use Rattle.sheet_bytes.specs.Space.{landThree}
 use Rattle.minimize.specs.Padding.{rules-safe}
 use Rattle.minimize.specs.State.{counters-some, counters-few, actions-few, ranges-bounded}
 use Rattle.minimize.specs.Steps.{values-known, next-covered, led, led-many, appended, new-bounded, led-new}

@@ -4,7 +4,7 @@ use native.Mathlib.Omega.{arith}
 use borrow.Author.Tests.{not-true, not-false}
 use Rattle.answers.specs.declared.Checked.the-variants.{Fine}
 use Rattle.answers.specs.Stages.{each, each-none, each-more}
-use Rattle.sheet.specs.Layout.{regionsOf, actionsOf}
+use Rattle.sheet_bytes.specs.Layout.{regionsOf, actionsOf}
 use Rattle.sheet.specs.Check.{checkLanding}
 use Rattle.sheet.specs.Shares.{landings, lands-fine, lands-refused, landings-more, landings-all, landings-first}
 use Rattle.sheet.proofs.landing.check_landing.Statement.{statement}

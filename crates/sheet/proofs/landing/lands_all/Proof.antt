@@ -2,9 +2,9 @@ use mathlib.Core.Path.{_≡_, subst, sym}
 use Prim.Native.Nat.{_+_, _<_}
 use native.Mathlib.Omega.{arith}
 use Rattle.model.specs.Blocks.{volume}
-use Rattle.sheet.specs.declared.RegionBox.{RegionBox}
-use Rattle.sheet.specs.Layout.{regionsOf, actionsOf}
-use Rattle.sheet.specs.Cuts.{allThree}
+use Rattle.sheet_bytes.specs.declared.RegionBox.{RegionBox}
+use Rattle.sheet_bytes.specs.Layout.{regionsOf, actionsOf}
+use Rattle.sheet_bytes.specs.Cuts.{allThree}
 use Rattle.sheet.specs.Shares.{sharesThree, Countable, read-barred, countable, left-lands}
 use borrow.Author.Needs.{needs}
 use Rattle.sheet.proofs.landing.lands_all.Statement.{statement}

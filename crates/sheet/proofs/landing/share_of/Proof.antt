@@ -1,8 +1,8 @@
 use mathlib.Core.Path.{subst, sym, _∙_, ap}
 use Rattle.model.specs.Blocks.{volume}
-use Rattle.sheet.specs.declared.Ranges.{Ranges}
-use Rattle.sheet.specs.Cuts.{allThree}
-use Rattle.sheet.specs.Bounded.{TightThree, tight-three, tight-cuts}
+use Rattle.sheet_bytes.specs.declared.Ranges.{Ranges}
+use Rattle.sheet_bytes.specs.Cuts.{allThree}
+use Rattle.sheet.specs.Tight.{TightThree, tight-three, tight-cuts}
 use Rattle.sheet.specs.Shares.{share-in, share-out}
 use borrow.Author.Needs.{needs}
 use Rattle.sheet.proofs.landing.share_of.Statement.{statement}

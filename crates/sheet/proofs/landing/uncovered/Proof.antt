@@ -2,11 +2,13 @@ use mathlib.Core.Path.{_≡_, subst, sym, ap, _∙_}
 use Prim.Native.Nat.{_+_, _-_, _≤_, _<_}
 use native.Mathlib.Omega.{arith}
 use Rattle.model.specs.Blocks.{volume}
-use Rattle.sheet.specs.declared.RegionBox.{RegionBox}
-use Rattle.sheet.specs.Layout.{regionsOf}
-use Rattle.sheet.specs.Three.{boxThree}
-use Rattle.sheet.specs.Cuts.{allThree, shareThree}
-use Rattle.sheet.specs.Bounded.{RangesWithin, tight-three, box-within}
+use Rattle.sheet_bytes.specs.declared.RegionBox.{RegionBox}
+use Rattle.sheet_bytes.specs.Layout.{regionsOf}
+use Rattle.sheet_bytes.specs.Three.{boxThree}
+use Rattle.sheet_bytes.specs.Cuts.{allThree}
+use Rattle.sheet_bytes.specs.Bounds.{RangesWithin, box-within}
+use Rattle.sheet.specs.Volumes.{shareThree}
+use Rattle.sheet.specs.Tight.{tight-three}
 use Rattle.sheet.specs.Shares.{sharesThree, none-taken, all-taken, taken, taken-more}
 use Rattle.sheet.proofs.landing.uncovered.Statement.{statement}
 use Rattle.sheet.proofs.landing.uncovered.Tie as tie

@@ -1,5 +1,5 @@
 use native.Mathlib.Omega.{arith}
-use Rattle.sheet.specs.Bounded.{tight-countable, two-sizes, three-sizes, volume-parts}
+use Rattle.sheet.specs.Tight.{tight-countable, two-sizes, three-sizes, volume-parts}
 use Rattle.sheet.proofs.landing.volume_of.Statement.{statement}
 use Rattle.sheet.proofs.landing.volume_of.Tie as tie
 

@@ -4,7 +4,7 @@ use Prim.Native.Nat.{_≤_, _-_}
 use native.Mathlib.Omega.{arith}
 use Rattle.answers.specs.declared.Checked.the-variants.{Fine}
 use Rattle.answers.specs.Stages.{each, each-none, loop-stop, loop-more, loop-end}
-use Rattle.sheet.specs.Layout.{regionsOf}
+use Rattle.sheet_bytes.specs.Layout.{regionsOf}
 use Rattle.sheet.specs.Check.{checkLabel}
 use Rattle.sheet.proofs.regions.check_labels.Statement.{statement}
 use Rattle.sheet.proofs.regions.check_labels.Tie as tie

@@ -4,7 +4,7 @@ use mathlib.Core.Bool.{true}
 use Prim.Native.Nat.{ℕ, _≤_, _<_, _-_}
 use native.Mathlib.Omega.{arith}
 use borrow.Author.Count.{below-more}
-use Rattle.sheet.specs.Layout.{countersOf}
+use Rattle.sheet_bytes.specs.Layout.{countersOf}
 use Rattle.sheet.specs.Regions.{all-yes, all-no, meeting, meets}
 use Rattle.sheet.proofs.regions.ranges_meet.Statement.{statement}
 use Rattle.sheet.proofs.regions.ranges_meet.Tie as tie

@@ -1,8 +1,6 @@
-use mathlib.Core.Path.{_≡_, ap, _∙_}
-use Prim.Native.Nat.{_+_, _-_, _≤_, _<_}
+use Prim.Native.Nat.{_-_, _≤_}
 use native.Mathlib.Omega.{arith}
-use lib.ListN.{length, getD, set, length-set}
-use Rattle.sheet.specs.declared.RegionMove.{RegionMove}
+use lib.ListN.{getD, set, length-set}
 use Rattle.sheet.specs.Walk.{Walk, at-start, at-land, at-within, rules-safe, walk-start, walk-old, walk-step, walk-barred, walk-whole, number-read}
 use borrow.Author.Needs.{needs}
 use Rattle.sheet.proofs.walk.walk.Statement.{statement}

@@ -1,0 +1,56 @@
+use borrow.Author.Needs.{needs}
+use mathlib.Core.Path.{_≡_, sym, _∙_}
+use mathlib.Core.Bool.{false}
+use Prim.Native.Nat.{ℕ, _-_, _≤_, _<_}
+use native.Mathlib.Omega.{arith}
+use Rattle.model.specs.Chart.{refines}
+use Rattle.chart_bytes.specs.Classes.{entry, class-found, refines-refl, below-next}
+use Rattle.chart_bytes.proofs.rounds.refined_class.Statement.{statement}
+use Rattle.chart_bytes.proofs.rounds.refined_class.Tie as tie
+
+abbrev Inv-loop : tie.InvT-loop
+Inv-loop c f i j₀ j = (j ≤ i) × ((k : ℕ) → k < j → refines c (entry f) i k ≡ false)
+
+abbrev μ-loop : tie.MeasureT-loop
+μ-loop c f i j₀ j = i - j
+
+loop-holds : tie.Need-loop-holds Inv-loop μ-loop
+loop-holds c = (omega arith, λ k h. absurd (omega arith))
+
+agrees-requires : tie.Need-agrees-requires Inv-loop μ-loop
+agrees-requires c κs = search needs
+
+returns : tie.Need-returns Inv-loop μ-loop
+returns c =
+    let s = c .before .before .before .before .before .before .args in
+    let l = c .before .before .before .loop in
+    class-found (s .c .now) (s .f .now) (s .i) (l .j) (l .inv .0) (omega arith) (l .inv .1) (sym (c .before .agrees .ensures) ∙ c .if1 .taken)
+
+add-j : tie.Need-add-j Inv-loop μ-loop
+add-j c = search needs
+
+loop-less : tie.Need-loop-less Inv-loop μ-loop
+loop-less c = search needs
+
+loop-again : tie.Need-loop-again Inv-loop μ-loop
+loop-again c = let l = c .before .before .before .loop in (omega arith, below-next (l .j) (l .inv .1) (sym (c .before .agrees .ensures) ∙ c .if1 .left))
+
+returns-2 : tie.Need-returns-2 Inv-loop μ-loop
+returns-2 c =
+    let s = c .before .before .before .before .args in
+    let l = c .before .loop in
+    class-found (s .c .now) (s .f .now) (s .i) (s .i) (omega arith) (omega arith) (λ k h. l .inv .1 k (omega arith)) (refines-refl (s .c .now) (entry (s .f .now)) (s .i))
+
+pub refined-class-spec : {M : Type 1} → statement M
+refined-class-spec =
+    tie.close
+    (tie.spec
+    Inv-loop
+    μ-loop
+    loop-holds
+    agrees-requires
+    returns
+    add-j
+    loop-less
+    loop-again
+    returns-2)

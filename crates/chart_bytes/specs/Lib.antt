@@ -1,0 +1,4 @@
+pub mod Header
+pub mod Shape
+pub mod HeaderLaws
+pub mod Classes

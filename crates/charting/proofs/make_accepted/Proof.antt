@@ -1,0 +1,90 @@
+use mathlib.Core.Path.{refl}
+use lib.ListN.{length}
+use Rattle.sheet_bytes.specs.Decode.{decode}
+use Rattle.charting.specs.Making.{makes-refused, many-blocks, answered-many, answered-table}
+use borrow.Author.Needs.{needs}
+use Rattle.charting.proofs.make_accepted.Statement.{statement}
+use Rattle.charting.proofs.make_accepted.Tie as tie
+
+slice-aggregate-refine : tie.Need-slice-aggregate-refine
+slice-aggregate-refine c = search needs
+
+slice-aggregate-refine-2 : tie.Need-slice-aggregate-refine-2
+slice-aggregate-refine-2 c = search needs
+
+slice-aggregate-refine-3 : tie.Need-slice-aggregate-refine-3
+slice-aggregate-refine-3 c = search needs
+
+slice-aggregate-refine-4 : tie.Need-slice-aggregate-refine-4
+slice-aggregate-refine-4 c = search needs
+
+refine-requires : tie.Need-refine-requires
+refine-requires c κs = (c .before .before .before .before .before .before .before .pre, (refl, (refl, (refl, refl))))
+
+enum-known-refined : tie.Need-enum-known-refined
+enum-known-refined c = search needs
+
+enum-told : tie.Need-enum-told
+enum-told c = search needs
+
+returns : tie.Need-returns
+returns c =
+    let start = c .before .before .before .before .before .before .before .before .before .before .before .before .before .before in
+    let chart = start .args .chart .now in
+    let list = start .args .list .now in
+    let sheet = decode (start .args .s .now) in
+    makes-refused sheet chart list (many-blocks sheet (length chart) (length list) (answered-many (c .before .before .before .before .before .before .refine .ensures) (c .enum-told .given .1)))
+
+slice-aggregate-make-blocks : tie.Need-slice-aggregate-make-blocks
+slice-aggregate-make-blocks c = search needs
+
+slice-aggregate-make-blocks-2 : tie.Need-slice-aggregate-make-blocks-2
+slice-aggregate-make-blocks-2 c = search needs
+
+slice-aggregate-make-blocks-3 : tie.Need-slice-aggregate-make-blocks-3
+slice-aggregate-make-blocks-3 c = search needs
+
+make-blocks-requires : tie.Need-make-blocks-requires
+make-blocks-requires c κs =
+    let f = c .before .before .before .before .before .before .before .before .before .before .before .before .refine in (
+      c .before .before .before .before .before .before .before .before .before .before .before .before .before .before .before .before .before .before .before .before .pre,
+      (
+        c .before .before .before .before .before .before .before .before .before .before .before .cells2 .given,
+        (
+          c .before .before .before .before .before .before .before .before .before .before .homes2 .given,
+          (
+            c .before .before .before .before .before .before .before .before .before .targets2 .given,
+            answered-table (c .before .before .before .before .before .before .refined .given .0 .0) (f .ensures) (c .before .before .before .before .before .before .refined .given .1),
+          ),
+        ),
+      ),
+    )
+
+same-length : tie.Need-same-length
+same-length c = search needs
+
+same-length-2 : tie.Need-same-length-2
+same-length-2 c = search needs
+
+returns-2 : tie.Need-returns-2
+returns-2 c = search needs
+
+pub make-accepted-spec : {M : Type 1} → statement M
+make-accepted-spec =
+    tie.close
+    (tie.spec
+    slice-aggregate-refine
+    slice-aggregate-refine-2
+    slice-aggregate-refine-3
+    slice-aggregate-refine-4
+    refine-requires
+    enum-known-refined
+    enum-told
+    returns
+    slice-aggregate-make-blocks
+    slice-aggregate-make-blocks-2
+    slice-aggregate-make-blocks-3
+    make-blocks-requires
+    same-length
+    same-length-2
+    returns-2)

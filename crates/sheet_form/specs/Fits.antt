@@ -1,0 +1,107 @@
+-- What check 4 leaves: the rules of every open move are within their limits, and the bounds of a range need no check for that.
+use mathlib.Core.Path.{_≡_, subst}
+use mathlib.Core.Bool.{Bool, true, false, _&&_, not}
+use mathlib.Core.List.{List}
+use Prim.Native.Nat.{ℕ, _+_, _<_}
+use native.Mathlib.Omega.{arith}
+use lib.Dec.{eqb, ltb, leb}
+use lib.ListN.{getD, drop}
+use lib.IntN.{ℤ, pos}
+use lib.Signed.{leZ}
+use borrow.Author.Tests.{ltb-true}
+use Rattle.integers.specs.Range.{contains, contains-le, Within, within-wider, leZ-le}
+use Rattle.integers.specs.LittleEndian.{Bytes, bytes-drop}
+use Rattle.systems.specs.Laws.{both, true-is, is-true}
+use Rattle.systems.specs.Lists.{length-each}
+use Rattle.answers.specs.declared.Checked.{Checked}
+use Rattle.answers.specs.declared.Checked.the-variants.{Fine}
+use Rattle.answers.specs.Stages.{andThen, each, then-fine, demand, demand-fine, each-fine}
+use Rattle.model.specs.declared.Rule.the-variants.{Set, Carry}
+use Rattle.model.specs.Sheet.{Barred, Open, RuleFits, set-fits, carry-fits, RangeFits, MoveFits, barred-fits, open-fits}
+use Rattle.sheet_bytes.specs.Layout.{countersOf, actionsOf, regionsOf, highPlace, movePlace, movePart, rulePlace, kindOf, sourceOf, factorOf, offsetOf}
+use Rattle.sheet_bytes.specs.Decode.{listed, rangeAt, ruleOf, ruleAt, moveOf, moveAt}
+use Rattle.sheet_bytes.specs.Bounds.{each-listed, range-within}
+use Rattle.sheet_form.specs.Form.{near, checkRule, checkZeroRule, checkMove, checkFields}
+
+near-within : (n : ℕ) (z : ℤ) → near n z ≡ true → Within n z
+near-within n z e = let (a, b) = contains-le _ z .0 (true-is (near n z) e) in record { above = a; below = b }
+
+near-zero : (z : ℤ) → not (near 0 z) ≡ true → z ≡ pos 0 → ⊥
+unfolding contains
+near-zero z e d =
+    let f : not (near 0 (pos 0)) ≡ true = subst (λ (y : ℤ). not (near 0 y) ≡ true) d e in
+    let y : _≡_ {A = ℕ} 0 1 = cc in
+    omega arith
+
+-- a rule that passed is within its limits
+pub rule-fits : (V# : ℕ) (p : List ℕ) (at : ℕ) → checkRule V# p at ≡ Fine → RuleFits V# (ruleOf p)
+unfolding checkRule ruleOf
+rule-fits V# p at e = go (eqb (kindOf p) 0) (then-fine (demand (leb (kindOf p) 1) 4 at) _ e .1)
+  where
+    offset : near 4000000 (offsetOf p) ≡ true → Within 200000000 (offsetOf p)
+    offset d = within-wider 200000000 (omega arith) (near-within 4000000 (offsetOf p) d)
+
+    go : (b : Bool)
+        → andThen (demand (elim b [ true ↦ eqb (sourceOf p) 0 | false ↦ ltb (sourceOf p) V# ]) 4 (at + 1))
+        (andThen (demand (elim b [ true ↦ near 0 (factorOf p) | false ↦ near 100 (factorOf p) && not (near 0 (factorOf p)) ]) 4 (at + 2))
+        (demand (near 4000000 (offsetOf p)) 4 (at + 3)))
+        ≡ Fine
+        → RuleFits V# (elim b [ true ↦ Set (offsetOf p) | false ↦ Carry (sourceOf p) (factorOf p) (offsetOf p) ])
+    go true f =
+        let (x, g) = then-fine (demand (eqb (sourceOf p) 0) 4 (at + 1)) _ f in
+        let (y, z) = then-fine (demand (near 0 (factorOf p)) 4 (at + 2)) _ g in
+        set-fits (offset (demand-fine (near 4000000 (offsetOf p)) 4 (at + 3) z))
+    go false f =
+        let (x, g) = then-fine (demand (ltb (sourceOf p) V#) 4 (at + 1)) _ f in
+        let (y, z) = then-fine (demand (near 100 (factorOf p) && not (near 0 (factorOf p))) 4 (at + 2)) _ g in
+        let w = demand-fine (near 100 (factorOf p) && not (near 0 (factorOf p))) 4 (at + 2) y in
+        let (k, l) = both (near 100 (factorOf p)) (not (near 0 (factorOf p))) .0 (true-is _ w) in
+        carry-fits
+        (ltb-true (sourceOf p) V# (demand-fine (ltb (sourceOf p) V#) 4 (at + 1) x))
+        (near-zero (factorOf p) (is-true (not (near 0 (factorOf p))) l))
+        (near-within 100 (factorOf p) (is-true (near 100 (factorOf p)) k))
+        (offset (demand-fine (near 4000000 (offsetOf p)) 4 (at + 3) z))
+
+-- a move that passed
+pub move-fits : (V# : ℕ) (p : List ℕ) (at : ℕ) → Bytes p → checkMove V# p at ≡ Fine → MoveFits V# (moveOf V# p)
+unfolding checkMove moveOf
+move-fits V# p at b e = go (eqb (kindOf p) 0) (then-fine (demand (leb (kindOf p) 1) 4 at) _ e .1)
+  where
+    go : (t : Bool)
+        → _≡_ {A = Checked} (elim t [
+          | true ↦ andThen (demand (eqb (getD p 1 0) 0) 4 (at + 1)) (each (λ v. checkZeroRule (drop (rulePlace v) p) (at + rulePlace v)) V#)
+          | false ↦ each (λ v. checkRule V# (drop (rulePlace v) p) (at + rulePlace v)) V#
+        ]) Fine
+        → MoveFits V# (elim t [ true ↦ Barred | false ↦ Open (getD p 1 0) (listed (ruleAt p) V#) ])
+    go true f = barred-fits
+    go false f =
+        open-fits
+        (b 1)
+        (length-each (ruleAt p) V#)
+        (each-listed {P = RuleFits V#} (ruleAt p) V#
+        (λ v h. rule-fits V# (drop (rulePlace v) p) (at + rulePlace v) (each-fine (λ v. checkRule V# (drop (rulePlace v) p) (at + rulePlace v)) V# f v h)))
+
+module _ (s : List ℕ) (b : Bytes s) (e : each (checkFields s) (regionsOf s) ≡ Fine) where
+  -- every move of a sheet that passed check 4 is within its limits,
+  pub moves-fit : (i a : ℕ) → i < regionsOf s → a < actionsOf s → MoveFits (countersOf s) (moveAt s i a)
+  unfolding moveAt checkFields
+  moves-fit i a h k =
+      let f = each-fine (checkFields s) (regionsOf s) e i h in
+      let g = then-fine (each (λ v. demand (leZ (rangeAt s i v .low) (rangeAt s i v .high)) 4 (highPlace s i v)) (countersOf s)) _ f .1 in
+      move-fits (countersOf s) (movePart s i a) (movePlace s i a) (bytes-drop s (movePlace s i a) b)
+      (each-fine (λ a. checkMove (countersOf s) (movePart s i a) (movePlace s i a)) (actionsOf s) g a k)
+
+  -- and so is every range.
+  pub range-fits : (i v : ℕ) → i < regionsOf s → v < countersOf s → RangeFits (rangeAt s i v)
+  unfolding checkFields
+  range-fits i v h k =
+      let f = each-fine (checkFields s) (regionsOf s) e i h in
+      let g = then-fine (each (λ v. demand (leZ (rangeAt s i v .low) (rangeAt s i v .high)) 4 (highPlace s i v)) (countersOf s)) _ f .0 in
+      let d = each-fine (λ v. demand (leZ (rangeAt s i v .low) (rangeAt s i v .high)) 4 (highPlace s i v)) (countersOf s) g v k in
+      let o = demand-fine (leZ (rangeAt s i v .low) (rangeAt s i v .high)) 4 (highPlace s i v) d in
+      let w = range-within s i v b in
+      record {
+        ordered = leZ-le (rangeAt s i v .low) (rangeAt s i v .high) .0 (true-is _ o);
+        low-fits = within-wider 1000000 (omega arith) (w .low-within);
+        high-fits = within-wider 1000000 (omega arith) (w .high-within);
+      }

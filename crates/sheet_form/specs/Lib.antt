@@ -1,0 +1,4 @@
+pub mod Form
+pub mod Header
+pub mod Limits
+pub mod Fits

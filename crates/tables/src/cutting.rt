@@ -1,0 +1,84 @@
+// Cutting a row's box, and storing its target.
+ghost use mathlib.Core.Path.{_≡_};
+ghost use Prim.Native.Nat.{_+_, _*_, _<_, _≤_};
+ghost use lib.ListN.{set};
+ghost use Rattle.sheet_bytes.specs.Bounds.{RangesWithin, RulesFit};
+ghost use Rattle.tables.specs.Arrays.{CellsRoom, TargetsRoom, FlagsRoom, rangesIn};
+ghost use Rattle.tables.specs.Cutting.{Same, CutRow, Settled};
+use crate::marks::raise;
+use crate::rows::put_ranges;
+use crate::rows::ranges_in;
+use integers::Range;
+use sheet_bytes::Ranges;
+use sheet_bytes::Rules;
+use sheet_bytes::cutting::cut_by_all;
+
+pub fn same_range(a: Range, b: Range) -> bool
+    ensures { λ r. ⌜ Same a b r ⌝ }
+{
+    if a.low != b.low {
+        return false;
+    }
+    if a.high != b.high {
+        return false;
+    }
+    true
+}
+
+pub fn same_ranges(a: Ranges, b: Ranges) -> bool
+    ensures { λ r. ⌜ Same a b r ⌝ }
+{
+    if !same_range(a.first, b.first) {
+        return false;
+    }
+    if !same_range(a.second, b.second) {
+        return false;
+    }
+    same_range(a.third, b.third)
+}
+
+// Cuts the ranges of row i to what the rules lead into those of row j; whether that changed them.
+pub fn cut_row(cells: &mut [i64], i: usize, j: usize, rules: Rules) -> bool
+    requires { ⌜ CellsRoom (now cells) ⌝ }
+    requires { ⌜ (i < 255) × (j < 255) ⌝ }
+    requires { ⌜ RulesFit rules ⌝ }
+    requires { ⌜ RangesWithin 1000000 (rangesIn (now cells) j) ⌝ }
+    ensures { λ r. ⌜ CutRow rules (now (cells .entry)) (now (cells .exit)) i j r ⌝ }
+{
+    let old = ranges_in(cells, i);
+    let wanted = ranges_in(cells, j);
+    let cut = cut_by_all(rules, wanted, old);
+    if same_ranges(cut, old) {
+        return false;
+    }
+    put_ranges(cells, i, cut);
+    true
+}
+
+// Stores j as the target of row i and action a, cuts row i by row j, and if that changed it raises the flags of all rows with a target i.
+pub fn settle(
+    cells: &mut [i64],
+    targets: &mut [u8],
+    flags: &mut [u8],
+    actions: usize,
+    n: usize,
+    i: usize,
+    a: usize,
+    j: usize,
+    rules: Rules,
+)
+    requires { ⌜ CellsRoom (now cells) ⌝ }
+    requires { ⌜ TargetsRoom (now targets) ⌝ }
+    requires { ⌜ FlagsRoom (now flags) ⌝ }
+    requires { ⌜ (actions ≤ 8) × (n ≤ 255) × (i < n) × (a < actions) × (j < n) ⌝ }
+    requires { ⌜ RulesFit rules ⌝ }
+    requires { ⌜ RangesWithin 1000000 (rangesIn (now cells) j) ⌝ }
+    ensures { λ _. ⌜ now (targets .exit) ≡ set (now (targets .entry)) (255 * a + i) j ⌝ }
+    ensures { λ _. ⌜ Settled rules actions (now (cells .entry)) (now (targets .exit)) (now (flags .entry)) n i j (now (cells .exit)) (now (flags .exit)) ⌝ }
+{
+    targets[255 * a + i] = j as u8;
+    if !cut_row(cells, i, j, rules) {
+        return;
+    }
+    raise(targets, flags, actions, i as u8, n);
+}

@@ -1,0 +1,141 @@
+-- The worked examples of document 01, computed on the definitions: a row for each, one test over the table, one proof.
+use mathlib.Core.Bool.{Bool, true, false, _&&_}
+use mathlib.Core.List.{List, [], _∷_}
+use mathlib.Core.Option.{Option, some, none}
+use Prim.Native.Nat.{ℕ}
+use lib.Dec.{T, eqb}
+use lib.ListN.{set}
+use lib.IntN.{ℤ, pos, negsuc}
+use lib.Signed.{leZ}
+use Rattle.integers.specs.declared.Range.{Range}
+use Rattle.integers.specs.Range.{contains, meet, vacant, size, smaller, larger}
+use Rattle.integers.specs.Division.{floorBy, floor, ceiling}
+use Rattle.integers.specs.Inverse.{inverse}
+use Rattle.integers.specs.LittleEndian.{joined, unsignedAt, signedOf, signedAt, split, bitsOf}
+use Rattle.systems.specs.Search.{run}
+use Rattle.systems.specs.Lists.{collect}
+use Rattle.systems.specs.System.{alone, stopped, before, continued, reading}
+use Rattle.systems.specs.Exploration.{place, known, added, visited, visitedAt, visitedNext, explore}
+use Rattle.answers.specs.declared.Checked.{Checked}
+use Rattle.answers.specs.declared.Checked.the-variants.{Fine, Refused}
+use Rattle.answers.specs.Stages.{andThen, demand}
+use Rattle.model.specs.declared.Rule.the-variants.{Carry}
+use Rattle.model.specs.Sheet.{Move, Barred, Open, Region, Sheet, within, inBox, placeIn, regionNumber, regionOf, applied, updated, landing, moved, step, sheetSystem, sheetReading}
+use Rattle.model.specs.Blocks.{emptied, cut, cuts, preimage, narrowed, classBox, volume, volumes, configurations, classOf, sameClass, blocks, targetByte, chartRecord, chartOf, rangeBytes, boxRecord, boxListOf}
+use Rattle.model.specs.Listing.{numbers, numbersIn, prefixed, valuesIn, members}
+use Rattle.sheet_bytes.specs.Layout.{moveSize, regionSize, startValue, regionPlace, labelAt, stateAt, lowPlace, highPlace, movePlace, rulePlace, factorOf, offsetOf}
+use Rattle.sheet_bytes.specs.Decode.{ruleOf, moveOf, rangeAt, boxAt, moveAt, regionAt, startOf, decode}
+use Rattle.sheet_form.specs.Form.{sameBytes, checkHeader, checkCounts, checkLength, checkRule, checkZeroRule, checkMove, checkFields}
+use Rattle.sheet.specs.Check.{checkLabel, overlap, checkOverlap, checkStart, every, lands, checkLanding, sheetCheck}
+
+-- one example: what is computed, and what document 01 says it is
+pub data Row : Type 0 where
+  -- the inverse of factor and offset into a range
+  inverse-row : ℤ → ℤ → Range → Range → Row
+  -- a sheet's chart
+  chart-row : Sheet → List ℕ → Row
+  -- a sheet's bytes, accepted, and its chart
+  accepted-row : List ℕ → List ℕ → Row
+  -- bytes that are refused, with a number and a place
+  refused-row : List ℕ → ℕ → ℕ → Row
+  -- a sheet's box list
+  boxes-row : Sheet → List ℕ → Row
+  -- an action sequence's labels and barred index
+  reading-row : Sheet → List ℕ → List ℕ → Option ℕ → Row
+
+pub sameZ : ℤ → ℤ → Bool
+sameZ a b = leZ a b && leZ b a
+
+pub sameList : List ℕ → List ℕ → Bool
+sameList [] [] = true
+sameList [] (y ∷ l) = false
+sameList (x ∷ k) [] = false
+sameList (x ∷ k) (y ∷ l) = eqb x y && sameList k l
+
+pub sameOption : Option ℕ → Option ℕ → Bool
+sameOption none none = true
+sameOption none (some y) = false
+sameOption (some x) none = false
+sameOption (some x) (some y) = eqb x y
+
+pub sameChecked : Checked → Checked → Bool
+sameChecked Fine Fine = true
+sameChecked Fine (Refused n p) = false
+sameChecked (Refused m q) Fine = false
+sameChecked (Refused m q) (Refused n p) = eqb m n && eqb q p
+
+pub test : Row → Bool
+test (inverse-row f b r q) = sameZ (inverse f b r .low) (q .low) && sameZ (inverse f b r .high) (q .high)
+test (chart-row s l) = sameList (chartOf s) l
+test (accepted-row s l) = sameChecked (sheetCheck s) Fine && sameList (chartOf (decode s)) l
+test (refused-row s n p) = sameChecked (sheetCheck s) (Refused n p)
+test (boxes-row s l) = sameList (boxListOf 2 s) l
+test (reading-row s w l b) = sameList (sheetReading s w .labels) l && sameOption (sheetReading s w .barred) b
+
+-- every row passes
+pub passes : List Row → Bool
+passes [] = true
+passes (r ∷ l) = test r && passes l
+
+-- sheets of one counter, one action and one state: each region has a label, bounds and a move
+pub region : ℕ → ℤ → ℤ → Move → Region
+region label low high move = record { label = label; box = record { state = 0; ranges = (record { low = low; high = high }) ∷ [] }; moves = move ∷ [] }
+
+pub carry : ℤ → ℤ → Move
+carry factor offset = Open 0 (Carry 0 factor offset ∷ [])
+
+pub sheet : List Region → ℤ → Sheet
+sheet regions start = record { counters = 1; actions = 1; regions = regions; start = record { state = 0; values = start ∷ [] } }
+
+-- the sheet of 43 bytes
+pub first : Sheet
+first = sheet (region 10 (pos 0) (pos 7) (carry (pos 2) (pos 1)) ∷ region 20 (pos 8) (pos 15) Barred ∷ []) (pos 2)
+
+-- its bytes
+pub bytes : List ℕ
+bytes =
+    77 ∷ 83 ∷ 72 ∷ 1 ∷ 0 ∷ 1 ∷ 1 ∷ 2 ∷ 0 ∷ 2 ∷ 0
+    ∷ 10 ∷ 0 ∷ 0 ∷ 0 ∷ 0 ∷ 7 ∷ 0 ∷ 1 ∷ 0 ∷ 1 ∷ 0 ∷ 2 ∷ 1 ∷ 0 ∷ 0 ∷ 0
+    ∷ 20 ∷ 0 ∷ 0 ∷ 8 ∷ 0 ∷ 15 ∷ 0 ∷ 0 ∷ 0 ∷ 0 ∷ 0 ∷ 0 ∷ 0 ∷ 0 ∷ 0 ∷ 0
+    ∷ []
+
+-- factor -1, offset -1 on one region -8..7
+pub mirror : Sheet
+mirror = sheet (region 10 (negsuc 7) (pos 7) (carry (negsuc 0) (negsuc 0)) ∷ []) (pos 2)
+
+-- 0..1000 by factor 2; 1001..2000 barred; start 0
+pub doubling : Sheet
+doubling = sheet (region 10 (pos 0) (pos 1000) (carry (pos 2) (pos 0)) ∷ region 20 (pos 1001) (pos 2000) Barred ∷ []) (pos 0)
+
+pub range : ℤ → ℤ → Range
+range low high = record { low = low; high = high }
+
+pub table : List Row
+table =
+    -- P1
+    chart-row first (66 ∷ 67 ∷ 72 ∷ 1 ∷ 0 ∷ 1 ∷ 3 ∷ 10 ∷ 0 ∷ 1 ∷ 10 ∷ 0 ∷ 2 ∷ 20 ∷ 0 ∷ 255 ∷ [])
+    ∷ accepted-row bytes (66 ∷ 67 ∷ 72 ∷ 1 ∷ 0 ∷ 1 ∷ 3 ∷ 10 ∷ 0 ∷ 1 ∷ 10 ∷ 0 ∷ 2 ∷ 20 ∷ 0 ∷ 255 ∷ [])
+    ∷ boxes-row first (0 ∷ 2 ∷ 0 ∷ 3 ∷ 0 ∷ 0 ∷ 4 ∷ 0 ∷ 7 ∷ 0 ∷ 0 ∷ 8 ∷ 0 ∷ 15 ∷ 0 ∷ [])
+    -- P2: offset 2 in place of 1
+    ∷ refused-row (set bytes 23 2) 8 18
+    -- P3: the second region's low 7
+    ∷ refused-row (set bytes 30 7) 6 27
+    -- P4: start 16
+    ∷ refused-row (set bytes 9 16) 7 8
+    -- P5
+    ∷ chart-row mirror (66 ∷ 67 ∷ 72 ∷ 1 ∷ 0 ∷ 1 ∷ 1 ∷ 10 ∷ 0 ∷ 0 ∷ [])
+    ∷ boxes-row mirror (0 ∷ 248 ∷ 255 ∷ 7 ∷ 0 ∷ [])
+    -- P6
+    ∷ inverse-row (negsuc 2) (pos 0) (range (negsuc 6) (negsuc 1)) (range (pos 1) (pos 2))
+    -- P7
+    ∷ inverse-row (negsuc 2) (pos 0) (range (negsuc 1) (pos 7)) (range (negsuc 1) (pos 0))
+    -- P8
+    ∷ chart-row doubling (66 ∷ 67 ∷ 72 ∷ 1 ∷ 0 ∷ 1 ∷ 1 ∷ 10 ∷ 0 ∷ 0 ∷ [])
+    ∷ boxes-row doubling (0 ∷ 0 ∷ 0 ∷ 0 ∷ 0 ∷ [])
+    -- P9
+    ∷ reading-row first (0 ∷ 0 ∷ 0 ∷ []) (10 ∷ 10 ∷ 20 ∷ []) (some 2)
+    ∷ []
+
+pub worked-examples : T (passes table)
+unfolding passes test table sameZ sameList sameOption sameChecked bytes region carry sheet first mirror doubling range smaller larger contains meet size floorBy floor ceiling inverse split bitsOf collect alone stopped before continued reading place known added visited visitedAt visitedNext explore within inBox placeIn regionNumber regionOf applied updated landing moved step sheetSystem sheetReading emptied cut cuts preimage narrowed classBox volume volumes configurations classOf sameClass blocks targetByte chartRecord chartOf rangeBytes boxRecord boxListOf joined unsignedAt signedOf signedAt vacant run andThen demand numbers numbersIn prefixed valuesIn members moveSize regionSize startValue regionPlace labelAt stateAt lowPlace highPlace movePlace rulePlace factorOf offsetOf ruleOf moveOf rangeAt boxAt moveAt regionAt startOf decode sameBytes checkHeader checkCounts checkLength checkRule checkZeroRule checkMove checkFields checkLabel overlap checkOverlap checkStart every lands checkLanding sheetCheck
+worked-examples = tt

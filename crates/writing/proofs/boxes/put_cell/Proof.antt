@@ -1,0 +1,51 @@
+use native.Mathlib.Omega.{arith}
+use Prim.Native.Nat.{_%_, _/_}
+use mathlib.Core.Path.{ap, _∙_}
+use lib.ListN.{length-set}
+use Rattle.integers.specs.LittleEndian.{split}
+use Rattle.writing.specs.Stored.{stored, stored-two}
+use Rattle.writing.specs.BoxBytes.{bits-bytes}
+use borrow.Author.Needs.{needs}
+use Rattle.writing.proofs.boxes.put_cell.Statement.{statement}
+use Rattle.writing.proofs.boxes.put_cell.Tie as tie
+
+bits16-requires : tie.Need-bits16-requires
+bits16-requires c κs = search needs
+
+cast-out : tie.Need-cast-out
+cast-out c = search needs
+
+slice-write-out : tie.Need-slice-write-out
+slice-write-out c = search needs
+
+cast-out-2 : tie.Need-cast-out-2
+cast-out-2 c = search needs
+
+add-out : tie.Need-add-out
+add-out c = search needs
+
+slice-write-out-2 : tie.Need-slice-write-out-2
+slice-write-out-2 c = simp length-set (omega arith)
+
+same-length : tie.Need-same-length
+same-length c = search needs
+
+returns : tie.Need-returns
+returns c =
+    let start = c .before .before in
+    let u = c .bits16 .result in
+    stored-two (start .args .out .now) (start .args .at) (u % 256) (u / 256)
+    ∙ ap (stored (start .args .out .now) (start .args .at)) (bits-bytes u (c .bits16 .ensures .1) ∙ ap (split 2) (c .bits16 .ensures .0))
+
+pub put-cell-spec : {M : Type 1} → statement M
+put-cell-spec =
+    tie.close
+    (tie.spec
+    bits16-requires
+    cast-out
+    slice-write-out
+    cast-out-2
+    add-out
+    slice-write-out-2
+    same-length
+    returns)
