@@ -7,7 +7,7 @@ use native.Mathlib.Omega.{arith}
 use native.Mathlib.Decide.{decLt}
 use lib.Dec.{T}
 use lib.ListN.{length, getD, List·getD-eq-default}
-use Rattle.systems.specs.System.{Alike}
+use Rattle.systems.specs.System.{Alike, Reached, at-start, by-step}
 use Rattle.systems.specs.Alike.{AlikeTo, alike-to-zero, alike-to-le, alike-depths, alike-refl, alike-sym, alike-trans}
 use Rattle.systems.specs.Explored.{Explorable, Representatives, explore-representatives}
 use Rattle.systems.specs.Moore.{Tested, alike-length}
@@ -129,7 +129,12 @@ module _ (s : Sheet) (W : WellFormed s) where
   unfolding sheetSystem
   sheet-explorable = record { starts = W .start-covered; closed = λ a x y. W .moves-land x y a; tells = class-alike; bounded = step-bounded s W }
 
-  -- They are representatives: reached, no two of them equivalent, and the start is the first.
+  -- A reached configuration is covered.
+  pub reached-covered : (x : Configuration) → Reached (sheetSystem s) (s .start) x → Covered s x
+  reached-covered x at-start = sheet-explorable .starts
+  reached-covered x (by-step {x = y} a r e) = sheet-explorable .closed a y x (reached-covered y r) e
+
+  -- The blocks are representatives: reached, no two of them equivalent, and the start is the first.
   pub blocks-representatives : Representatives (sheetSystem s) (s .start) (Covered s) (blocks s)
   unfolding blocks
   blocks-representatives = explore-representatives (sheetSystem s) (sameClass s) (s .actions) (s .start) (Covered s) sheet-explorable 255

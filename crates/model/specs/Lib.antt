@@ -11,4 +11,7 @@ pub mod ChartBytes
 pub mod Rounds
 pub mod ChartRules
 pub mod ChartEquality
+pub mod Composition
+pub mod Distinguishing
+pub mod DepthBound
 pub mod Theorems

@@ -8,13 +8,13 @@ use Prim.Native.Nat.{ℕ, _≤_, _<_}
 use lib.Dec.{T}
 use lib.ListN.{length}
 use borrow.Author.Tests.{ltb-true, lt-ltb}
-use Rattle.systems.specs.System.{Reached, at-start, by-step, reading, Alike, Below}
+use Rattle.systems.specs.System.{Reached, reading, Alike, Below}
 use Rattle.systems.specs.Alike.{Bisimulation, alike-bisimulation, bisimilar-alike}
 use Rattle.systems.specs.Explored.{Many, explored, explored-one, refused}
 use Rattle.model.specs.Sheet.{Configuration, Sheet, inBox, sheetSystem, sheetReading, Covered, WellFormed}
 use Rattle.model.specs.Blocks.{classOf, sameClass, blocks, blockAt, tooMany, chartOf}
 use Rattle.model.specs.Chart.{ChartRules, chartReading}
-use Rattle.model.specs.ClassTheorem.{class-members, sheet-explorable, blocks-representatives}
+use Rattle.model.specs.ClassTheorem.{class-members, sheet-explorable, reached-covered, blocks-representatives}
 use Rattle.model.specs.ChartRules as Rules
 use Rattle.model.specs.ChartEquality.{chart-equality}
 
@@ -94,10 +94,6 @@ module _ (s : Sheet) (W : WellFormed s) where
   unfolding tooMany
   too-many = (λ e. ltb-true 255 (length (blocks s)) e, λ h. lt-ltb 255 (length (blocks s)) h)
 
-  reached-covered : (x : Configuration) → Reached (sheetSystem s) (s .start) x → Covered s x
-  reached-covered x at-start = sheet-explorable s W .starts
-  reached-covered x (by-step {x = y} a r e) = sheet-explorable s W .closed a y x (reached-covered y r) e
-
   pub minimal-reachable : MinimalReachable s
   minimal-reachable =
       record {
@@ -106,7 +102,7 @@ module _ (s : Sheet) (W : WellFormed s) where
             (blocks-representatives s W .reached i h, (h, class-members s W (blockAt s i) (blockAt s i) (blocks-representatives s W .covered i h) .1 (blocks-representatives s W .covered i h, λ w. refl)));
         reached-blocks = λ few x r.
             let (i, h, p) = index-of x few r in
-            (i, (h, class-members s W (blockAt s i) x (blocks-representatives s W .covered i h) .1 (reached-covered x r, p)));
+            (i, (h, class-members s W (blockAt s i) x (blocks-representatives s W .covered i h) .1 (reached-covered s W x r, p)));
         one-block = λ i j x p q. same-index x i j (p .0) (q .0) (in-block i x p .1) (in-block j x q .1);
         shared-block = λ i j x y p q. shared i j x y p q;
         boxes-exact = λ i x h. class-members s W (blockAt s i) x (blocks-representatives s W .covered i h);

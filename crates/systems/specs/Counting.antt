@@ -74,6 +74,17 @@ pub classes-new : {X : Type 0} (r : X → X → Bool) (x : X) (l : List X) → h
 unfolding classes
 classes-new r x l e = rw (e, classes)
 
+-- a list with a member has a class
+pub classes-some : {X : Type 0} (r : X → X → Bool) (l : List X) (y : X) → List·Memᴰ y l → 0 < classes r l
+unfolding classes has
+classes-some r [] y m = absurd (List·Memᴰ·not-nil m)
+classes-some r (x ∷ []) y m = omega arith
+classes-some r (x ∷ (z ∷ l)) y m = go (has (r x) (z ∷ l)) (classes-some r (z ∷ l) z (List·Memᴰ·head refl))
+  where
+    go : (b : Bool) → 0 < classes r (z ∷ l) → 0 < elim b [ true ↦ classes r (z ∷ l) | false ↦ suc (classes r (z ∷ l)) ]
+    go true h = h
+    go false h = omega arith
+
 -- there are at most as many classes as members
 pub classes-le : {X : Type 0} (r : X → X → Bool) (l : List X) → classes r l ≤ length l
 unfolding classes

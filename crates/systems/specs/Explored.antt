@@ -59,6 +59,11 @@ pub record Many {X : Type 0} (s : System X) (start : X) (m : ℕ) : Type 0 where
   pub reached : (i : ℕ) → i < m → Reached s start (each i)
   pub apart : (i j : ℕ) → i < j → j < m → Alike s s (each i) (each j) → ⊥
 
+-- At most n classes are reached: each reached configuration is equivalent to one of n.
+pub record Few {X : Type 0} (s : System X) (start : X) (n : ℕ) : Type 0 where
+  pub each : ℕ → X
+  pub named : (x : X) → Reached s start x → (i : ℕ) × (i < n) × Alike s s (each i) x
+
 none-some : {X : Type 0} {A : Type 0} {o : Option X} {y : X} → o ≡ none → o ≡ some y → A
 none-some p q = let z : _≡_ {A = ℕ} 0 1 = cc in absurd (omega arith)
 

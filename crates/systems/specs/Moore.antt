@@ -13,7 +13,7 @@ use lib.ListN.{length}
 use Rattle.systems.specs.Search.{run}
 use Rattle.systems.specs.System.{System, Alike}
 use Rattle.systems.specs.Alike.{Both, both-barred, both-open, AlikeTo, alike-to-suc, alike-to-le, alike-depths, alike-to-equivalence}
-use Rattle.systems.specs.Counting.{Finer, EquivalenceOn, classes, classes-le, classes-finer, classes-same, numbers, numbers-length, numbers-mem}
+use Rattle.systems.specs.Counting.{Finer, EquivalenceOn, classes, classes-le, classes-some, classes-finer, classes-same, numbers, numbers-length, numbers-mem}
 
 -- ever finer equivalences on a list, which change no more once two neighbours agree
 pub record Chain {X : Type 0} (l : List X) (e : ℕ → X → X → Bool) : Type 0 where
@@ -136,14 +136,15 @@ module _ {X : Type 0} (s : System X) (l : List X) (e : ℕ → X → X → Bool)
   pub alike-length : (x y : X) → List·Memᴰ x l → List·Memᴰ y l → AlikeTo (length l) s s x y → Alike s s x y
   alike-length = alike-moore (length l) (omega arith)
 
--- The same for a system on the numbers below n: tests of equivalence to each depth, and steps that stay below n.
-pub alike-numbers : (s : System ℕ) (n : ℕ) (e : ℕ → ℕ → ℕ → Bool) → ((a i j : ℕ) → i < n → s .step a i ≡ some j → j < n)
-    → ((k i j : ℕ) → i < n → j < n → T (e k i j) ↔ AlikeTo k s s i j) → (i j : ℕ) → i < n → j < n → AlikeTo n s s i j → Alike s s i j
-alike-numbers s n e closed tells i j hi hj h =
+-- The same for a system on the numbers below n: tests of equivalence to each depth, and steps that stay below n. A depth one less than n is enough.
+pub alike-numbers : (s : System ℕ) (n m : ℕ) (e : ℕ → ℕ → ℕ → Bool) → ((a i j : ℕ) → i < n → s .step a i ≡ some j → j < n)
+    → ((k i j : ℕ) → i < n → j < n → T (e k i j) ↔ AlikeTo k s s i j) → n ≤ suc m → (i j : ℕ) → i < n → j < n → AlikeTo m s s i j → Alike s s i j
+alike-numbers s n m e closed tells b i j hi hj h =
     let l = numbers-length n in
+    let c = classes-some (e 0) (numbers n) i (numbers-mem n i .1 hi) in
     alike-moore s (numbers n) e
     (record {
       closed = λ a x y m q. numbers-mem n y .1 (closed a x y (numbers-mem n x .0 m) q);
       tells = λ k x y m o. tells k x y (numbers-mem n x .0 m) (numbers-mem n y .0 o);
     })
-    n (omega arith) i j (numbers-mem n i .1 hi) (numbers-mem n j .1 hj) h
+    m (omega arith) i j (numbers-mem n i .1 hi) (numbers-mem n j .1 hj) h

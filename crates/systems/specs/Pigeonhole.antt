@@ -1,9 +1,15 @@
 -- The pigeonhole principle for numbers below a bound.
-use Prim.Native.Nat.{ℕ, zero, suc, _≤_, _<_}
+use Prim.Native.Nat.{ℕ, zero, suc, _+_, _*_, _/_, _%_, _≤_, _<_}
 use native.Mathlib.Nat.{not-suc-le-zero}
 use native.Mathlib.Decide.{ℕ-discrete, decLt}
 use native.Mathlib.Omega.{arith}
-use mathlib.Core.Path.{_≡_, refl, sym, _∙_}
+use mathlib.Core.Path.{_≡_, refl, sym, ap, _∙_}
+use mathlib.Core.Logic.{⊎-elim}
+use mathlib.Core.Bool.{Bool, true, false}
+use lib.Arith.{digits-lt, digits-div, digits-mod}
+use lib.Dec.{eqb}
+use Rattle.systems.specs.Search.{any}
+use Rattle.systems.specs.Laws.{told, true-is, not-true, any-true, eqb-tells}
 
 -- f sends no two numbers below n to one
 abbrev pub InjectiveBelow : ℕ → (ℕ → ℕ) → Type 0
@@ -64,6 +70,49 @@ pigeonhole (suc n) (suc m) f h g =
             let z = g i n (omega arith) (omega arith) (sym (redirected-no f m (f n) i p) ∙ e ∙ redirected-yes f m (f n) j q) in
             absurd (omega arith)
         go (no p) (no q) = g i j (omega arith) (omega arith) (sym (redirected-no f m (f n) i p) ∙ e ∙ redirected-no f m (f n) j q)
+
+-- some number before j is sent to the same
+unfoldable seen : (ℕ → ℕ) → ℕ → Bool
+seen f j = any (λ i. eqb (f i) (f j)) j
+
+-- more than m numbers below m: two of them are the same
+pub repeated : (n m : ℕ) (f : ℕ → ℕ) → ((i : ℕ) → i < n → f i < m) → m < n → (i : ℕ) × (j : ℕ) × (i < j) × (j < n) × (f i ≡ f j)
+unfolding seen
+repeated n m f h l = ⊎-elim found missed (told (any (seen f) n))
+  where
+    found : any (seen f) n ≡ true → (i : ℕ) × (j : ℕ) × (i < j) × (j < n) × (f i ≡ f j)
+    found e =
+        let (j, b, t) = any-true (seen f) n .0 (true-is (any (seen f) n) e) in
+        let (i, c, u) = any-true (λ i. eqb (f i) (f j)) j .0 t in
+        (i, j, c, b, eqb-tells (f i) (f j) .0 u)
+
+    apart : any (seen f) n ≡ false → (i j : ℕ) → i < j → j < n → f i ≡ f j → ⊥
+    apart e i j b c q =
+        not-true (any (seen f) n) e (any-true (seen f) n .1 (j, c, any-true (λ i. eqb (f i) (f j)) j .1 (i, b, eqb-tells (f i) (f j) .1 q)))
+
+    injective : any (seen f) n ≡ false → InjectiveBelow n f
+    injective e i j b c q = go (decLt i j) (decLt j i)
+      where
+        go : Dec (i < j) → Dec (j < i) → i ≡ j
+        go (yes k) d = absurd (apart e i j k c q)
+        go (no k) (yes d) = absurd (apart e j i d b (sym q))
+        go (no k) (no d) = omega arith
+
+    missed : any (seen f) n ≡ false → (i : ℕ) × (j : ℕ) × (i < j) × (j < n) × (f i ≡ f j)
+    missed e = let z = pigeonhole n m f h (injective e) in absurd (omega arith)
+
+-- a pair of numbers, the second below k, as one number
+abbrev pub paired : ℕ → ℕ → ℕ → ℕ
+paired k a b = a * k + b
+
+pub paired-below : {n k a b : ℕ} → a < n → b < k → a * k + b < n * k
+paired-below h g = digits-lt h g
+
+pub paired-injective : {k : ℕ} (a b a′ b′ : ℕ) → b < k → b′ < k → a * k + b ≡ a′ * k + b′ → (a ≡ a′) × (b ≡ b′)
+paired-injective {k} a b a′ b′ h g e = (
+  sym (digits-div a h) ∙ ap (λ (z : ℕ). z / k) e ∙ digits-div a′ g,
+  sym (digits-mod a h) ∙ ap (λ (z : ℕ). z % k) e ∙ digits-mod a′ g,
+)
 
 -- a number for each i below n, as one function
 pub choose : (P : ℕ → ℕ → Type 0) (n : ℕ) → ((i : ℕ) → i < n → (k : ℕ) × P i k) → (f : ℕ → ℕ) × ((i : ℕ) → i < n → P i (f i))
