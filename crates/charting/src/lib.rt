@@ -71,8 +71,7 @@ fn make_accepted(s: &[u8], shape: Shape, chart: &mut [u8], list: &mut [u8]) -> M
     let mut cells = [0i64; 2295];
     let mut homes = [0u8; 510];
     let mut targets = [0u8; 2040];
-    let mut flags = [0u8; 255];
-    let refined = refine(s, shape, &mut cells, &mut homes, &mut targets, &mut flags);
+    let refined = refine(s, shape, &mut cells, &mut homes, &mut targets);
     let Refined::Done(n) = refined else {
         return Made::Refused {
             number: 9,

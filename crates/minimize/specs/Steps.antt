@@ -1,19 +1,22 @@
 -- What a step for one action, a turn of a row and the whole refinement give.
-use mathlib.Core.Path.{_≡_, sym, ap, subst, _∙_}
+use mathlib.Core.Path.{_≡_, refl, sym, ap, subst, _∙_}
+use mathlib.Core.Logic.{inr}
 use mathlib.Core.Bool.{true, false}
 use mathlib.Core.List.{List}
 use Prim.Native.Nat.{ℕ, _+_, _*_, _≤_, _<_}
-use native.Mathlib.Decide.{decLe, decLt}
+use native.Mathlib.Decide.{decLe, ℕ-discrete}
 use native.Mathlib.Numerals.{add-one}
 use native.Mathlib.Omega.{arith}
-use lib.ListN.{set}
-use lib.Seq.{getD-set-same, getD-set-other}
+use lib.Dec.{T}
+use lib.ListN.{length, set}
 use lib.IntN.{ℤ}
-use Rattle.model.specs.Sheet.{regionNumber, Covered}
+use mir.Syntax.{w64}
+use mir.Val.{Fits}
+use Rattle.model.specs.Sheet.{inBox, regionNumber, Covered}
 use Rattle.model.specs.Blocks.{tooMany}
-use Rattle.refinement.specs.Depth.{Shrunk, Follows, AllDeep, shrunk-refl, shrunk-trans, follows-before, follows-inside, deep-shrunk}
-use Rattle.refinement.specs.SheetTable.{sheetFrame, sheet-framed, Completed}
-use Rattle.refinement.specs.Potential.{falling-refl, falling-less, falling-trans, measure, measure-turn}
+use Rattle.refinement.specs.Depth.{Shrunk, Deep, AllDeep, Near, Reaches, shrunk-refl, shrunk-trans, shrunk-first, deep-shrunk, reaches-kept}
+use Rattle.refinement.specs.SheetTable.{Row, sheetFrame, Completed}
+use Rattle.refinement.specs.Potential.{falling-refl, falling-less, falling-trans, measure}
 use Rattle.refinement.specs.Loop.{Advance, rowsPotential}
 use Rattle.sheet_bytes.specs.declared.Shape.{Shape}
 use Rattle.sheet_bytes.specs.declared.Config.{Config}
@@ -23,148 +26,149 @@ use Rattle.sheet_bytes.specs.Decode.{decode}
 use Rattle.sheet_bytes.specs.Three.{configMeant, startThree}
 use Rattle.sheet_bytes.specs.Space.{ValuesWithin, landThree}
 use Rattle.sheet_bytes.specs.Bounds.{RangesWithin}
-use Rattle.tables.specs.Arrays.{CellsRoom, HomesRoom, TargetsRoom, FlagsRoom, configIn, rangesIn, regionIn, targetIn, flagIn, LastRaised}
+use Rattle.tables.specs.Arrays.{CellsRoom, HomesRoom, TargetsRoom, FlagsRoom, DepthsRoom, configIn, rangesIn, regionIn, targetIn, flagIn, depthIn, freshIn}
+use Rattle.tables.specs.Marks.{RowRaised, DownBelow, LastRaised}
+use Rattle.tables.specs.Depths.{Deepened}
+use Rattle.tables.specs.Sources.{Begun}
 use Rattle.tables.specs.Meaning.{Ready, rowIn, holdsIn, Found, moveIn, newCells, newHomes}
 use Rattle.tables.specs.Cutting.{Settled}
 use Rattle.minimize.specs.declared.Refined.{Refined}
 use Rattle.minimize.specs.declared.Refined.the-variants.{TooMany, Done}
-use Rattle.minimize.specs.State.{State, Fell, OpenAt, state-append, state-deep, advance-stopped, open-new, landed-new, state-many, state-end, state-done, state-first, start-covered, state-barred, barred-at, ranges-bounded, values-bounded, landing-covered}
-use Rattle.minimize.specs.Settling.{state-settled, advance-settled}
+use Rattle.minimize.specs.State.{State, Fell, OpenAt, actions-few, ranges-bounded, values-bounded, landing-covered, barred-at, stored-there, stored-elsewhere, lowered-there, lowered-falling}
+use Rattle.minimize.specs.State.{state-barred, advance-stopped, advance-quiet, new-other, state-append, open-new, landed-new, state-many, state-deep, state-deeper, state-done, state-first, start-covered}
+use Rattle.minimize.specs.Settling.{Bounded, lowered-bounded, state-settled, advance-settled}
 
--- the rows of the arrays are k deep
+-- numbers of rows
+pub room-left : {n : ℕ} → n ≤ 255 → (n ≡ 255 → ⊥) → n < 255
+room-left l q = omega arith
+
+pub one-more-fits : (n : ℕ) → n ≤ 255 → Fits w64 (n + 1)
+one-more-fits n l = record { fits = omega arith }
+
+pub below-next : {i n : ℕ} → i < n → i < n + 1
+below-next h = omega arith
+
+pub last-next : (n : ℕ) → n < n + 1
+last-next n = omega arith
+
+-- the rows of the arrays are each as deep as e says
+abbrev pub AllDeepIn : List ℕ → Shape → List ℤ → List ℕ → ℕ → (ℕ → ℕ) → Type 0
+AllDeepIn s shape c h n e = AllDeep (sheetFrame (decode s)) n (rowIn (shape .counters) c h) e
+
+-- all rows are k deep
 abbrev pub DeepIn : List ℕ → Shape → List ℤ → List ℕ → ℕ → ℕ → Type 0
-DeepIn s shape c h n k = AllDeep (sheetFrame (decode s)) n (rowIn (shape .counters) c h) k
+DeepIn s shape c h n k = AllDeepIn s shape c h n (λ j. k)
 
--- row i follows action b into the rows before
-abbrev pub FollowsIn : List ℕ → Shape → List ℤ → List ℕ → ℕ → List ℤ → List ℕ → ℕ → ℕ → Type 0
-FollowsIn s shape c h n c′ h′ i b = Follows (sheetFrame (decode s)) n (rowIn (shape .counters) c h) (rowIn (shape .counters) c′ h′ i) b
+-- action b of row i reaches as far as its target t is deep
+abbrev pub ReachesIn : List ℕ → Shape → List ℤ → List ℕ → ℕ → (ℕ → ℕ) → ℕ → ℕ → ℕ → Type 0
+ReachesIn s shape c h n e i b t = Reaches (sheetFrame (decode s)) n (rowIn (shape .counters) c h) e (rowIn (shape .counters) c h i) b t
 
--- What a change of the arrays does to the rows: while none is new they shrink, and a new one where all were 256 deep means too many blocks.
+-- the potential of the arrays
+abbrev pub potentialIn : Shape → List ℤ → List ℕ → ℕ → ℕ
+potentialIn shape c h n = rowsPotential n (rowIn (shape .counters) c h)
+
+-- What a change of the arrays does to the rows: those that were there shrink, and a new one where all were 255 deep means too many blocks.
 pub record Changed (s : List ℕ) (shape : Shape) (c : List ℤ) (h : List ℕ) (n : ℕ) (c′ : List ℤ) (h′ : List ℕ) (r : ℕ) : Type 0 where
-  pub shrunk : r ≡ n → Shrunk (sheetFrame (decode s)) n (rowIn (shape .counters) c h) (rowIn (shape .counters) c′ h′)
-  pub grown : n < r → DeepIn s shape c h n 256 → tooMany (decode s) ≡ true
+  pub shrunk : Shrunk (sheetFrame (decode s)) n (rowIn (shape .counters) c h) (rowIn (shape .counters) c′ h′)
+  pub grown : n < r → DeepIn s shape c h n 255 → tooMany (decode s) ≡ true
 
 pub changed-none : {s : List ℕ} {shape : Shape} {c : List ℤ} {h : List ℕ} {n : ℕ} → Changed s shape c h n c h n
-changed-none {s} = record { shrunk = λ e. shrunk-refl (sheetFrame (decode s)); grown = λ l. absurd (omega arith) }
+changed-none {s} = record { shrunk = shrunk-refl (sheetFrame (decode s)); grown = λ l. absurd (omega arith) }
 
-pub changed-trans : {s : List ℕ} {shape : Shape} (R : Ready s shape) {c c′ c″ : List ℤ} {h h′ h″ : List ℕ} {n r q : ℕ} → n ≤ r → r ≤ q → Changed s shape c h n c′ h′ r
+pub changed-trans : {s : List ℕ} {shape : Shape} {c c′ c″ : List ℤ} {h h′ h″ : List ℕ} {n r q : ℕ} → n ≤ r → r ≤ q → Changed s shape c h n c′ h′ r
     → Changed s shape c′ h′ r c″ h″ q → Changed s shape c h n c″ h″ q
-changed-trans {s} {shape} R {c} {c′} {c″} {h} {h′} {h″} {n} {r} {q} x y A B =
+changed-trans {s} {shape} {c} {c′} {c″} {h} {h′} {h″} {n} {r} {q} x y A B =
     record {
-      shrunk = λ e.
-          let d : r ≡ n = omega arith in
-          shrunk-trans (sheetFrame (decode s)) (A .shrunk d)
-          (subst (λ (k : ℕ). Shrunk (sheetFrame (decode s)) k (rowIn (shape .counters) c′ h′) (rowIn (shape .counters) c″ h″)) d (B .shrunk (omega arith)));
+      shrunk = shrunk-trans (sheetFrame (decode s)) (A .shrunk) (shrunk-first (sheetFrame (decode s)) x (B .shrunk));
       grown = λ l D. go (decLe r n) l D;
     }
   where
-    go : Dec (r ≤ n) → n < q → DeepIn s shape c h n 256 → tooMany (decode s) ≡ true
+    go : Dec (r ≤ n) → n < q → DeepIn s shape c h n 255 → tooMany (decode s) ≡ true
     go (no g) l D = A .grown (omega arith) D
     go (yes g) l D =
         let d : r ≡ n = omega arith in
-        B .grown (omega arith)
-        (subst (λ (k : ℕ). DeepIn s shape c′ h′ k 256) (sym d) (deep-shrunk (sheetFrame (decode s)) (sheet-framed (decode s) (R .well)) (A .shrunk d) D))
+        B .grown (omega arith) (subst (λ (k : ℕ). DeepIn s shape c′ h′ k 255) (sym d) (deep-shrunk (sheetFrame (decode s)) (A .shrunk) D))
 
--- From one state to another with at least as many rows. While none is new, row i follows the last action into the rows before.
-pub record Going (s : List ℕ) (shape : Shape) (c : List ℤ) (h f : List ℕ) (n : ℕ) (c′ : List ℤ) (h′ t′ f′ : List ℕ) (i a r : ℕ) : Type 0 where
+-- From one state to another with at least as many rows, by action a of row i. While none is new, the action reaches as far as its target was deep; where the
+-- potential stays, its flag is down.
+pub record Going (s : List ℕ) (shape : Shape) (c : List ℤ) (h t f d : List ℕ) (n : ℕ) (c′ : List ℤ) (h′ t′ f′ d′ : List ℕ) (i a r : ℕ) : Type 0 where
   pub more : n ≤ r
-  pub state : State s shape c′ h′ t′ f′ r i a
+  pub state : State s shape c′ h′ t′ f′ d′ r
   pub fell : Fell (shape .counters) c h f n c′ h′ f′ r
   pub changed : Changed s shape c h n c′ h′ r
-  pub last : r ≡ n → (b : ℕ) → b + 1 ≡ a → FollowsIn s shape c h n c′ h′ i b
+  pub reaches : r ≡ n → (e : ℕ → ℕ) → AllDeepIn s shape c h n e → ReachesIn s shape c′ h′ n e i a (targetIn t′ i a)
+  pub kept : (b : ℕ) → b < shape .actions → (b ≡ a → ⊥) → targetIn t′ i b ≡ targetIn t i b
+  pub depths-kept : r ≡ n → (k : ℕ) → k < 255 → depthIn d′ k ≡ depthIn d k
+  pub bounded : r ≡ n → Bounded shape f d n f′ d′ i a
+  pub lowered : potentialIn shape c′ h′ r ≡ potentialIn shape c h n → flagIn f′ i a ≡ 0
 
 -- Such a state, or more than 255 rows: then the sheet has too many blocks.
-pub record Outcome (s : List ℕ) (shape : Shape) (c : List ℤ) (h f : List ℕ) (n : ℕ) (c′ : List ℤ) (h′ t′ f′ : List ℕ) (i a r : ℕ) : Type 0 where
+pub record Outcome (s : List ℕ) (shape : Shape) (c : List ℤ) (h t f d : List ℕ) (n : ℕ) (c′ : List ℤ) (h′ t′ f′ d′ : List ℕ) (i a r : ℕ) : Type 0 where
   pub many : 255 < r → tooMany (decode s) ≡ true
-  pub going : r ≤ 255 → Going s shape c h f n c′ h′ t′ f′ i a r
+  pub going : r ≤ 255 → Going s shape c h t f d n c′ h′ t′ f′ d′ i a r
 
-module _ {s : List ℕ} {shape : Shape} {c c′ : List ℤ} {h f h′ t′ f′ : List ℕ} {n i a r : ℕ} where
-  pub going-on : Going s shape c h f n c′ h′ t′ f′ i a r → Outcome s shape c h f n c′ h′ t′ f′ i a r
+module _ {s : List ℕ} {shape : Shape} {c c′ : List ℤ} {h t f d h′ t′ f′ d′ : List ℕ} {n i a r : ℕ} where
+  pub going-on : Going s shape c h t f d n c′ h′ t′ f′ d′ i a r → Outcome s shape c h t f d n c′ h′ t′ f′ d′ i a r
   going-on G = record { many = λ l. let b = G .state .working .few in absurd (omega arith); going = λ l. G }
 
-  pub too-many : 255 < r → tooMany (decode s) ≡ true → Outcome s shape c h f n c′ h′ t′ f′ i a r
+  pub too-many : 255 < r → tooMany (decode s) ≡ true → Outcome s shape c h t f d n c′ h′ t′ f′ d′ i a r
   too-many l e = record { many = λ k. e; going = λ k. absurd (omega arith) }
 
-  -- one after the other
-  pub then-outcome : Ready s shape → {c″ : List ℤ} {h″ t″ f″ : List ℕ} {b q : ℕ} → Going s shape c h f n c′ h′ t′ f′ i a r → Outcome s shape c′ h′ f′ r c″ h″ t″ f″ i b q
-      → Outcome s shape c h f n c″ h″ t″ f″ i b q
-  then-outcome R {c″} {h″} {t″} {f″} {b} {q} G O =
-      record {
-        many = O .many;
-        going = λ l.
-            let H = O .going l in
-            let x = G .more in
-            let y = H .more in
-            record {
-              more = omega arith;
-              state = H .state;
-              fell = falling-trans (G .fell) (H .fell);
-              changed = changed-trans R x y (G .changed) (H .changed);
-              last = λ e k g.
-                  let d : r ≡ n = omega arith in
-                  follows-before (sheetFrame (decode s)) (G .changed .shrunk d)
-                  (subst (λ (v : ℕ). Follows (sheetFrame (decode s)) v (rowIn (shape .counters) c′ h′) (rowIn (shape .counters) c″ h″ i) k) d (H .last (omega arith) k g));
-            };
-      }
-
--- Row i follows all actions below a, while no row is new.
-abbrev pub Followed : List ℕ → Shape → List ℤ → List ℕ → ℕ → List ℤ → List ℕ → ℕ → ℕ → ℕ → Type 0
-Followed s shape c h n c′ h′ i a r = r ≡ n → (b : ℕ) → b < a → FollowsIn s shape c h n c′ h′ i b
-
--- and one action more
-pub then-followed : {s : List ℕ} {shape : Shape} (R : Ready s shape) {c c′ c″ : List ℤ} {h f h′ t′ f′ h″ t″ f″ : List ℕ} {n i a r q : ℕ} → i < n → Going s shape c h f n c′ h′ t′ f′ i a r
-    → Followed s shape c h n c′ h′ i a r → Outcome s shape c′ h′ f′ r c″ h″ t″ f″ i (a + 1) q → q ≤ 255 → Followed s shape c h n c″ h″ i (a + 1) q
-then-followed {s} {shape} R {c} {c′} {c″} {h} {f} {h′} {t′} {f′} {h″} {t″} {f″} {n} {i} {a} {r} {q} hi G F O l e b g = go (decLt b a)
-  where
-    d : r ≡ n
-    d = let x = G .more in let y = O .going l .more in omega arith
-
-    go : Dec (b < a) → FollowsIn s shape c h n c″ h″ i b
-    go (no k) = then-outcome R G O .going l .last e b (omega arith)
-    go (yes k) =
-        let z = O .going l .more in
-        let S = O .going l .changed .shrunk (omega (arith, d)) in
-        follows-inside (sheetFrame (decode s)) {row = rowIn (shape .counters) c h} (S .represents i (omega (arith, d))) (S .inside i (omega (arith, d))) (F d b k)
-
-pub going-stay : {s : List ℕ} {shape : Shape} {c : List ℤ} {h t f : List ℕ} {n i : ℕ} → State s shape c h t f n i 0 → Going s shape c h f n c h t f i 0 n
-going-stay {shape = shape} {c = c} {h = h} {f = f} {n = n} S =
-    record {
-      more = omega arith;
-      state = S;
-      fell = falling-refl (rowsPotential n (rowIn (shape .counters) c h)) (flagIn f) n;
-      changed = changed-none;
-      last = λ e b g. absurd (omega arith);
-    }
-
 -- an action of row i while no row is new
-pub advanced : {s : List ℕ} {shape : Shape} {c c′ : List ℤ} {h f t′ f′ : List ℕ} {n i a : ℕ} → State s shape c′ h t′ f′ n i (a + 1) → Fell (shape .counters) c h f n c′ h f′ n
-    → Advance (decode s) n (rowIn (shape .counters) c h) (rowIn (shape .counters) c′ h) i a → Going s shape c h f n c′ h t′ f′ i (a + 1) n
-advanced {s} {shape} {c} {c′} {h} {n = n} {i = i} {a = a} S p A =
-    record {
+advanced : {s : List ℕ} {shape : Shape} {c c′ : List ℤ} {h t f d t′ f′ d′ : List ℕ} {n i a k : ℕ} → State s shape c′ h t′ f′ d′ n
+    → ((k : ℕ) → k < 255 → depthIn d′ k ≡ depthIn d k) → Bounded shape f d n f′ d′ i a → Fell (shape .counters) c h f n c′ h f′ n
+    → (potentialIn shape c′ h n ≡ potentialIn shape c h n → flagIn f′ i a ≡ 0) → Advance (decode s) n (rowIn (shape .counters) c h) (rowIn (shape .counters) c′ h) i a k
+    → targetIn t′ i a ≡ k → ((b : ℕ) → b < shape .actions → (b ≡ a → ⊥) → targetIn t′ i b ≡ targetIn t i b) → Outcome s shape c h t f d n c′ h t′ f′ d′ i a n
+advanced {s} {shape} {c} {c′} {h} {d = d} {n = n} {i = i} {a = a} S y B p q A z w =
+    going-on
+    (record {
       more = omega arith;
       state = S;
       fell = p;
-      changed = record { shrunk = λ e. A .shrunk; grown = λ l. absurd (omega arith) };
-      last = λ e b g. let d : b ≡ a = omega arith in subst (FollowsIn s shape c h n c′ h i) (sym d) (A .follows);
-    }
+      changed = record { shrunk = A .shrunk; grown = λ l. absurd (omega arith) };
+      reaches = λ g e E. subst (ReachesIn s shape c′ h n e i a) (sym z) (A .reaches e E);
+      kept = w;
+      depths-kept = λ g. y;
+      bounded = λ g. B;
+      lowered = q;
+    })
+
+-- the flag of the action is down: nothing is done
+pub quiet-step : {s : List ℕ} {shape : Shape} (R : Ready s shape) {c : List ℤ} {h t f d : List ℕ} {n : ℕ} (i a : ℕ) → State s shape c h t f d n → i < n → a < shape .actions
+    → flagIn f i a ≡ 0 → Outcome s shape c h t f d n c h t f d i a n
+quiet-step {s} {shape} R {c} {h} {t} {f} {d} {n} i a S hi ha e =
+    advanced S (λ k l. refl) (record { less = omega arith; kept = λ k b l w q z. z; own = λ q. e }) (falling-refl (potentialIn shape c h n) (flagIn f) n) (λ q. e) (advance-quiet R S i a hi ha e) refl (λ b w q. refl)
+
+-- the step of a barred action
+pub barred-step : {s : List ℕ} {shape : Shape} (R : Ready s shape) {c : List ℤ} {h t f d : List ℕ} {n : ℕ} (i a : ℕ) (S : State s shape c h t f d n) → i < n → a < shape .actions
+    → {m : RegionMove} → m ≡ moveIn (shape .counters) s (regionIn h i) a → m .kind ≡ Barred
+    → Outcome s shape c h t f d n c h (set t (255 * a + i) 255) (set f (255 * a + i) 0) d i a n
+barred-step {s} {shape} R {c} {h} {t} {f} {d} {n} i a S hi ha {m} e q =
+    let few = S .working .few in
+    let g = actions-few R in
+    let o = barred-at R S i a hi ha e q in
+    advanced (state-barred R S i a hi ha o) (λ k l. refl) (lowered-bounded R S i a hi ha d (omega arith)) (lowered-falling f n i a (potentialIn shape c h n) (S .flags-room) few hi (omega arith))
+    (λ z. lowered-there f i a (S .flags-room) (omega arith) (omega arith)) (advance-stopped R S i a hi o)
+    (stored-there t i a 255 (S .targets-room) (omega arith) (omega arith)) (λ b w z. stored-elsewhere t n (shape .actions) i a 255 few hi i b hi w (λ u. z))
 
 -- A new row: the state with it, in which its landing is in it.
-pub record Appended (s : List ℕ) (shape : Shape) (c : List ℤ) (h t f : List ℕ) (n i a : ℕ) (m : RegionMove) (c′ : List ℤ) (h′ f′ : List ℕ) : Type 0 where
-  pub state : State s shape c′ h′ t f′ (n + 1) i a
+pub record Appended (s : List ℕ) (shape : Shape) (c : List ℤ) (h t f d : List ℕ) (n i a : ℕ) (m : RegionMove) (c′ : List ℤ) (h′ f′ d′ : List ℕ) : Type 0 where
+  pub state : State s shape c′ h′ t f′ d′ (n + 1)
   pub opens : OpenAt s shape c′ h′ i a m
   pub lands : holdsIn (shape .counters) c′ h′ (landThree m (configIn c′ h′ i)) n ≡ true
-  pub fell : Fell (shape .counters) c h f n c′ h′ f′ (n + 1)
-  pub deep : DeepIn s shape c h n 256 → tooMany (decode s) ≡ true
+  pub less : potentialIn shape c′ h′ (n + 1) < potentialIn shape c h n
+  pub same : (k : ℕ) → k < n → rowIn (shape .counters) c′ h′ k ≡ rowIn (shape .counters) c h k
+  pub deep : DeepIn s shape c h n 255 → tooMany (decode s) ≡ true
 
-module _ {s : List ℕ} {shape : Shape} (R : Ready s shape) {c : List ℤ} {h t f : List ℕ} {n i a : ℕ} (S : State s shape c h t f n i a) (hi : i < n) (ha : a < shape .actions)
+module _ {s : List ℕ} {shape : Shape} (R : Ready s shape) {c : List ℤ} {h t f d : List ℕ} {n : ℕ} (S : State s shape c h t f d n) (i a : ℕ) (hi : i < n) (ha : a < shape .actions)
     {m : RegionMove} (O : OpenAt s shape c h i a m) (x y : Config) (ex : x ≡ landThree m y) (ey : y ≡ configIn c h i) where
   next-is : x ≡ landThree m (configIn c h i)
   next-is = ex ∙ ap (landThree m) ey
 
-  pub found-in : {j : ℕ} → Found (shape .counters) c h x n j → j < n → holdsIn (shape .counters) c h (landThree m (configIn c h i)) j ≡ true
+  found-in : {j : ℕ} → Found (shape .counters) c h x n j → j < n → holdsIn (shape .counters) c h (landThree m (configIn c h i)) j ≡ true
   found-in {j} F l = ap (λ (z : Config). holdsIn (shape .counters) c h z j) (sym next-is) ∙ F .inside l
 
-  pub found-out : {j : ℕ} → Found (shape .counters) c h x n j → n ≤ j → (k : ℕ) → k < n → holdsIn (shape .counters) c h (landThree m (configIn c h i)) k ≡ false
+  found-out : {j : ℕ} → Found (shape .counters) c h x n j → n ≤ j → (k : ℕ) → k < n → holdsIn (shape .counters) c h (landThree m (configIn c h i)) k ≡ false
   found-out {j} F l k q =
       let b = F .few in
       ap (λ (z : Config). holdsIn (shape .counters) c h z k) (sym next-is) ∙ F .none (omega arith) k q
@@ -177,109 +181,236 @@ module _ {s : List ℕ} {shape : Shape} (R : Ready s shape) {c : List ℤ} {h t 
   values-known = subst (λ (z : Config). ValuesWithin 1000000 (z .values)) (sym ey) (values-bounded R S i hi)
 
   -- the landing was in row j
-  pub led : {j : ℕ} (c′ : List ℤ) (t′ f′ : List ℕ) → Found (shape .counters) c h x n j → j < n → t′ ≡ set t (255 * a + i) j → Settled (m .rules) (shape .actions) c t′ f n i j c′ f′
-      → Outcome s shape c h f n c′ h t′ f′ i (a + 1) n
-  led {j} c′ t′ f′ F l et E =
-      let (Q, p) = state-settled R S hi ha O j l (found-in F l) c′ t′ f′ et E in
-      going-on (advanced Q p (advance-settled R S hi ha O j l (found-in F l) c′ t′ f′ E))
+  pub led : {j : ℕ} (c′ : List ℤ) (t′ f′ d′ : List ℕ) → Found (shape .counters) c h x n j → j < n → t′ ≡ set t (255 * a + i) j → length d′ ≡ length d
+      → Settled (m .rules) (shape .actions) c t′ (set f (255 * a + i) 0) d n i j c′ f′ d′ → Outcome s shape c h t f d n c′ h t′ f′ d′ i a n
+  led {j} c′ t′ f′ d′ F l et ld E =
+      let few = S .working .few in
+      let g = actions-few R in
+      let Q = state-settled R S i a hi ha O j l (found-in F l) c′ t′ f′ d′ et ld E in
+      advanced (Q .state) (Q .depths) (Q .bounded) (Q .fell) (Q .lowered) (advance-settled R S i a hi ha O j l (found-in F l) c′ t′ f′ d′ E)
+      (ap (λ (w : List ℕ). targetIn w i a) et ∙ stored-there t i a j (S .targets-room) (omega arith) (omega arith))
+      (λ b w z. ap (λ (v : List ℕ). targetIn v i b) et ∙ stored-elsewhere t n (shape .actions) i a j few hi i b hi w (λ u. z))
 
   -- it was in none, and there are 255
-  pub led-many : {j : ℕ} (c′ : List ℤ) (h′ t′ f′ : List ℕ) → Found (shape .counters) c h x n j → n ≤ j → n ≡ 255 → Outcome s shape c h f n c′ h′ t′ f′ i (a + 1) 256
-  led-many {j} c′ h′ t′ f′ F l e = too-many (omega arith) (state-many R S hi O (found-out F l) e)
+  pub led-many : {j : ℕ} (c′ : List ℤ) (h′ t′ f′ d′ : List ℕ) → Found (shape .counters) c h x n j → n ≤ j → n ≡ 255 → Outcome s shape c h t f d n c′ h′ t′ f′ d′ i a 256
+  led-many {j} c′ h′ t′ f′ d′ F l e = too-many (omega arith) (state-many R S i a hi O (found-out F l) e)
 
   -- it was in none, and came as a new row
-  pub appended : {j : ℕ} (c′ : List ℤ) (h′ f′ : List ℕ) → Found (shape .counters) c h x n j → n ≤ j → n < 255 → c′ ≡ newCells (shape .counters) s c n x
-      → h′ ≡ newHomes (shape .counters) s h n x → f′ ≡ set f n 1 → Appended s shape c h t f n i a m c′ h′ f′
-  appended {j} c′ h′ f′ F l hn ec eh ef =
-      subst (λ (v : List ℤ). Appended s shape c h t f n i a m v h′ f′) (sym ec)
-      (subst (λ (v : List ℕ). Appended s shape c h t f n i a m (newCells (shape .counters) s c n x) v f′) (sym eh)
-      (subst (λ (v : List ℕ). Appended s shape c h t f n i a m (newCells (shape .counters) s c n x) (newHomes (shape .counters) s h n x) v) (sym ef)
-      (subst (λ (z : Config). Appended s shape c h t f n i a m (newCells (shape .counters) s c n z) (newHomes (shape .counters) s h n z) (set f n 1)) (sym next-is) base)))
+  pub appended : {j : ℕ} (c′ : List ℤ) (h′ f′ d′ : List ℕ) → Found (shape .counters) c h x n j → n ≤ j → n < 255 → c′ ≡ newCells (shape .counters) s c n x
+      → h′ ≡ newHomes (shape .counters) s h n x → length f′ ≡ length f → RowRaised f f′ n → length d′ ≡ length d → Begun d d′ n → Appended s shape c h t f d n i a m c′ h′ f′ d′
+  appended {j} c′ h′ f′ d′ F l hn ec eh lf U ld B =
+      subst (λ (v : List ℤ). Appended s shape c h t f d n i a m v h′ f′ d′) (sym ec)
+      (subst (λ (v : List ℕ). Appended s shape c h t f d n i a m (newCells (shape .counters) s c n x) v f′ d′) (sym eh)
+      (subst (λ (z : Config). Appended s shape c h t f d n i a m (newCells (shape .counters) s c n z) (newHomes (shape .counters) s h n z) f′ d′) (sym next-is) base))
     where
-      base : Appended s shape c h t f n i a m (newCells (shape .counters) s c n (landThree m (configIn c h i))) (newHomes (shape .counters) s h n (landThree m (configIn c h i))) (set f n 1)
+      base : Appended s shape c h t f d n i a m (newCells (shape .counters) s c n (landThree m (configIn c h i))) (newHomes (shape .counters) s h n (landThree m (configIn c h i))) f′ d′
       base =
-          let (Q, p) = state-append R S hi O (found-out F l) hn in
+          let (Q, p) = state-append R S i a hi O (found-out F l) hn f′ d′ lf U ld B in
           record {
             state = Q;
-            opens = open-new R S hi O (found-out F l) hn;
-            lands = landed-new R S hi O (found-out F l) hn;
-            fell =
+            opens = open-new R S i a hi O (found-out F l) hn;
+            lands = landed-new R S i a hi O (found-out F l) hn;
+            less =
                 subst
-                (λ (k : ℕ). Fell (shape .counters) c h f n (newCells (shape .counters) s c n (landThree m (configIn c h i))) (newHomes (shape .counters) s h n (landThree m (configIn c h i))) (set f n 1) k)
-                (sym (add-one n)) (falling-less p);
-            deep = state-deep R S hi O (found-out F l);
+                (λ (k : ℕ). potentialIn shape (newCells (shape .counters) s c n (landThree m (configIn c h i))) (newHomes (shape .counters) s h n (landThree m (configIn c h i))) k < potentialIn shape c h n)
+                (sym (add-one n)) p;
+            same = λ k b. new-other R c h n (landThree m (configIn c h i)) k (λ e. omega arith);
+            deep = state-deep R S i a hi O (found-out F l);
           }
 
-module _ {s : List ℕ} {shape : Shape} (R : Ready s shape) {c c₁ : List ℤ} {h t f h₁ f₁ : List ℕ} {n i a : ℕ} {m : RegionMove} (hi : i < n) (ha : a < shape .actions)
-    (A : Appended s shape c h t f n i a m c₁ h₁ f₁) where
+module _ {s : List ℕ} {shape : Shape} (R : Ready s shape) {c c₁ : List ℤ} {h t f d h₁ f₁ d₁ : List ℕ} {n : ℕ} {m : RegionMove} (i a : ℕ) (hi : i < n) (ha : a < shape .actions)
+    (A : Appended s shape c h t f d n i a m c₁ h₁ f₁ d₁) where
   pub new-bounded : RangesWithin 1000000 (rangesIn c₁ n)
   new-bounded = ranges-bounded R (A .state) n (omega arith)
 
-  pub led-new : (c′ : List ℤ) (t′ f′ : List ℕ) → t′ ≡ set t (255 * a + i) n → Settled (m .rules) (shape .actions) c₁ t′ f₁ (n + 1) i n c′ f′
-      → Outcome s shape c h f n c′ h₁ t′ f′ i (a + 1) (n + 1)
-  led-new c′ t′ f′ et E =
-      let (Q, p) = state-settled R (A .state) (omega arith) ha (A .opens) n (omega arith) (A .lands) c′ t′ f′ et E in
+  -- the rows that were there are as they were
+  same-shrunk : Shrunk (sheetFrame (decode s)) n (rowIn (shape .counters) c h) (rowIn (shape .counters) c₁ h₁)
+  same-shrunk =
+      record {
+        represents = λ k b. ap (λ (r : Row). r .representative) (A .same k b);
+        inside = λ k b y. subst (λ (r : Row). T (inBox (r .box) y)) (A .same k b);
+      }
+
+  pub led-new : (c′ : List ℤ) (t′ f′ d′ : List ℕ) → t′ ≡ set t (255 * a + i) n → length d′ ≡ length d₁
+      → Settled (m .rules) (shape .actions) c₁ t′ (set f₁ (255 * a + i) 0) d₁ (n + 1) i n c′ f′ d′ → Outcome s shape c h t f d n c′ h₁ t′ f′ d′ i a (n + 1)
+  led-new c′ t′ f′ d′ et ld E =
+      let few = A .state .working .few in
+      let Q = state-settled R (A .state) i a (omega arith) ha (A .opens) n (omega arith) (A .lands) c′ t′ f′ d′ et ld E in
+      let N = advance-settled R (A .state) i a (omega arith) ha (A .opens) n (omega arith) (A .lands) c′ t′ f′ d′ E in
+      let l = A .less in
+      let p = Q .fell .falls in
       going-on
       (record {
         more = omega arith;
-        state = Q;
-        fell = falling-trans (A .fell) p;
-        changed = record { shrunk = λ e. absurd (omega arith); grown = λ l D. A .deep D };
-        last = λ e. absurd (omega arith);
+        state = Q .state;
+        fell = falling-less (omega arith);
+        changed = record {
+          shrunk = shrunk-trans (sheetFrame (decode s)) same-shrunk (shrunk-first (sheetFrame (decode s)) (omega arith) (N .shrunk));
+          grown = λ b D. A .deep D;
+        };
+        reaches = λ e. absurd (omega arith);
+        kept = λ b w z. ap (λ (v : List ℕ). targetIn v i b) et ∙ stored-elsewhere t n (shape .actions) i a n (omega arith) hi i b hi w (λ u. z);
+        depths-kept = λ e. absurd (omega arith);
+        bounded = λ e. absurd (omega arith);
+        lowered = λ e. absurd (omega arith);
       })
 
--- the measure of the arrays
-unfoldable pub measureIn : ℕ → List ℤ → List ℕ → List ℕ → ℕ → ℕ
-measureIn V# c h f n = measure (rowsPotential n (rowIn V# c h)) (flagIn f) n
+-- What the actions of row i below a do to the flags.
+pub record BoundedTo (shape : Shape) (f d : List ℕ) (n : ℕ) (f′ d′ : List ℕ) (i a : ℕ) : Type 0 where
+  pub less : freshIn d′ ≤ freshIn d
+  pub kept : (k b : ℕ) → k < n → b < shape .actions → k < freshIn d′ → flagIn f k b ≡ 0 → flagIn f′ k b ≡ 0
+  pub own : i < freshIn d′ → DownBelow f′ i a
 
--- What a turn of row i gives: no row in work, a smaller measure, and while no row is new row i follows every action; or too many blocks.
-pub record Turned (s : List ℕ) (shape : Shape) (c : List ℤ) (h f : List ℕ) (n : ℕ) (c′ : List ℤ) (h′ t′ f′ : List ℕ) (i r : ℕ) : Type 0 where
+bounded-more : {shape : Shape} {f d f′ d′ f″ d″ : List ℕ} {n i a : ℕ} → i < n → a < shape .actions → BoundedTo shape f d n f′ d′ i a → Bounded shape f′ d′ n f″ d″ i a → BoundedTo shape f d n f″ d″ i (a + 1)
+bounded-more {shape} {f} {d} {f′} {d′} {f″} {d″} {n} {i} {a} hi ha A B =
+    let x = A .less in
+    let y = B .less in
+    record {
+      less = omega arith;
+      kept = λ k b h w q z. B .kept k b h w q (A .kept k b h w (omega arith) z);
+      own = λ q b l. go b l (omega arith) q (ℕ-discrete b a);
+    }
+  where
+    go : (b : ℕ) → b < a + 1 → i < freshIn d′ → i < freshIn d″ → Dec (b ≡ a) → flagIn f″ i b ≡ 0
+    go b l p q (yes z) = ap (flagIn f″ i) z ∙ B .own q
+    go b l p q (no z) = B .kept i b hi (omega arith) q (A .own p b (omega arith))
+
+-- The turn of row i with the actions below a behind it.
+pub record Turning (s : List ℕ) (shape : Shape) (c : List ℤ) (h t f d : List ℕ) (n : ℕ) (c′ : List ℤ) (h′ t′ f′ d′ : List ℕ) (i a r : ℕ) : Type 0 where
+  pub more : n ≤ r
+  pub state : State s shape c′ h′ t′ f′ d′ r
+  pub fell : Fell (shape .counters) c h f n c′ h′ f′ r
+  pub changed : Changed s shape c h n c′ h′ r
+  pub reaches : r ≡ n → (e : ℕ → ℕ) → AllDeepIn s shape c h n e → (b : ℕ) → b < a → ReachesIn s shape c′ h′ n e i b (targetIn t′ i b)
+  pub depths-kept : r ≡ n → (k : ℕ) → k < 255 → depthIn d′ k ≡ depthIn d k
+  pub bounded : r ≡ n → BoundedTo shape f d n f′ d′ i a
+  pub lowered : potentialIn shape c′ h′ r ≡ potentialIn shape c h n → (b : ℕ) → b < a → flagIn f′ i b ≡ 0
+
+pub turning-begin : {s : List ℕ} {shape : Shape} {c : List ℤ} {h t f d : List ℕ} {n i : ℕ} → State s shape c h t f d n → Turning s shape c h t f d n c h t f d i 0 n
+turning-begin {shape = shape} {c = c} {h = h} {f = f} {n = n} S =
+    record {
+      more = omega arith;
+      state = S;
+      fell = falling-refl (potentialIn shape c h n) (flagIn f) n;
+      changed = changed-none;
+      reaches = λ g e E b l. absurd (omega arith);
+      depths-kept = λ g k l. refl;
+      bounded = λ g. record { less = omega arith; kept = λ k b l w q z. z; own = λ q b l. absurd (omega arith) };
+      lowered = λ g b l. absurd (omega arith);
+    }
+
+pub turning-on : {s : List ℕ} {shape : Shape} {c c′ c″ : List ℤ} {h t f d h′ t′ f′ d′ h″ t″ f″ d″ : List ℕ} {n i a r q : ℕ} → i < n → a < shape .actions → shape .actions ≤ 8
+    → Turning s shape c h t f d n c′ h′ t′ f′ d′ i a r → Outcome s shape c′ h′ t′ f′ d′ r c″ h″ t″ f″ d″ i a q → q ≤ 255 → Turning s shape c h t f d n c″ h″ t″ f″ d″ i (a + 1) q
+turning-on {s} {shape} {c} {c′} {c″} {h} {t} {f} {d} {h′} {t′} {f′} {d′} {h″} {t″} {f″} {d″} {n} {i} {a} {r} {q} hi ha few T O l =
+    let G = O .going l in
+    let x = T .more in
+    let y = G .more in
+    let u = T .fell .falls in
+    let v = G .fell .falls in
+    record {
+      more = omega arith;
+      state = G .state;
+      fell = falling-trans (T .fell) (G .fell);
+      changed = changed-trans x y (T .changed) (G .changed);
+      reaches = λ g e E b w. reach G (omega arith) (omega arith) e E b w (ℕ-discrete b a);
+      depths-kept = λ g k w. G .depths-kept (omega arith) k w ∙ T .depths-kept (omega arith) k w;
+      bounded = λ g. bounded-more hi ha (T .bounded (omega arith)) (subst (λ (k : ℕ). Bounded shape f′ d′ k f″ d″ i a) (omega arith) (G .bounded (omega arith)));
+      lowered = λ g b w. down G (omega arith) (omega arith) x b w (ℕ-discrete b a);
+    }
+  where
+    reach : Going s shape c′ h′ t′ f′ d′ r c″ h″ t″ f″ d″ i a q → r ≡ n → q ≡ n → (e : ℕ → ℕ) → AllDeepIn s shape c h n e → (b : ℕ) → b < a + 1 → Dec (b ≡ a)
+        → ReachesIn s shape c″ h″ n e i b (targetIn t″ i b)
+    reach G g g′ e E b w (yes z) =
+        let D = subst (λ (k : ℕ). AllDeepIn s shape c′ h′ k e) (sym g) (deep-shrunk (sheetFrame (decode s)) (T .changed .shrunk) E) in
+        subst (λ (k : ℕ). ReachesIn s shape c″ h″ n e i k (targetIn t″ i k)) (sym z) (subst (λ (k : ℕ). ReachesIn s shape c″ h″ k e i a (targetIn t″ i a)) g (G .reaches (omega arith) e D))
+    reach G g g′ e E b w (no z) =
+        let S = subst (λ (k : ℕ). Shrunk (sheetFrame (decode s)) k (rowIn (shape .counters) c′ h′) (rowIn (shape .counters) c″ h″)) g (G .changed .shrunk) in
+        subst (ReachesIn s shape c″ h″ n e i b) (sym (G .kept b (omega arith) z))
+        (reaches-kept (sheetFrame (decode s)) {row = rowIn (shape .counters) c′ h′} {row′ = rowIn (shape .counters) c″ h″} i hi S (T .reaches g e E b (omega arith)))
+
+    down : Going s shape c′ h′ t′ f′ d′ r c″ h″ t″ f″ d″ i a q → potentialIn shape c″ h″ q ≡ potentialIn shape c′ h′ r → potentialIn shape c′ h′ r ≡ potentialIn shape c h n → n ≤ r
+        → (b : ℕ) → b < a + 1 → Dec (b ≡ a) → flagIn f″ i b ≡ 0
+    down G g g′ x b w (yes z) = ap (flagIn f″ i) z ∙ G .lowered g
+    down G g g′ x b w (no z) = G .fell .flags-down g i b (omega arith) (omega arith) (T .lowered g′ b (omega arith))
+
+-- the same while no row is new
+pub turning-same : {s : List ℕ} {shape : Shape} {c c′ c″ : List ℤ} {h t f d h′ t′ f′ d′ h″ t″ f″ d″ : List ℕ} {n i a q : ℕ} → i < n → a < shape .actions → shape .actions ≤ 8
+    → Turning s shape c h t f d n c′ h′ t′ f′ d′ i a n → Outcome s shape c′ h′ t′ f′ d′ n c″ h″ t″ f″ d″ i a q → n ≤ 255 → q ≤ n → Turning s shape c h t f d n c″ h″ t″ f″ d″ i (a + 1) n
+turning-same {s} {shape} {c} {c″ = c″} {h = h} {t = t} {f = f} {d = d} {h″ = h″} {t″ = t″} {f″ = f″} {d″ = d″} {n = n} {i = i} {a = a} hi ha few T O b l =
+    let x = O .going (omega arith) .more in
+    subst (Turning s shape c h t f d n c″ h″ t″ f″ d″ i (a + 1)) (omega arith) (turning-on hi ha few T O (omega arith))
+
+-- What a turn of row i gives: a state in which its flags are down where the potential stays, and, while no row is new, what it reaches; or too many blocks.
+pub record Turned (s : List ℕ) (shape : Shape) (c : List ℤ) (h f d : List ℕ) (n : ℕ) (c′ : List ℤ) (h′ t′ f′ d′ : List ℕ) (i r : ℕ) : Type 0 where
   pub many : 255 < r → tooMany (decode s) ≡ true
   pub more : n ≤ r
-  pub state : r ≤ 255 → State s shape c′ h′ t′ f′ r 255 0
-  pub less : r ≤ 255 → measureIn (shape .counters) c′ h′ f′ r < measureIn (shape .counters) c h f n
+  pub state : r ≤ 255 → State s shape c′ h′ t′ f′ d′ r
+  pub fell : r ≤ 255 → Fell (shape .counters) c h f n c′ h′ f′ r
   pub changed : r ≤ 255 → Changed s shape c h n c′ h′ r
-  pub followed : r ≤ 255 → Followed s shape c h n c′ h′ i (shape .actions) r
+  pub lowered : r ≤ 255 → potentialIn shape c′ h′ r ≡ potentialIn shape c h n → DownBelow f′ i (shape .actions)
+  pub bounded : r ≡ n → BoundedTo shape f d n f′ d′ i (shape .actions)
+  pub near : r ≡ n → (k : ℕ) → DeepIn s shape c h n k → (b : ℕ) → b < shape .actions
+      → Near (sheetFrame (decode s)) n (rowIn (shape .counters) c′ h′) k (rowIn (shape .counters) c′ h′ i) b
 
-pub turned-many : {s : List ℕ} {shape : Shape} {c c′ : List ℤ} {h f h′ t′ f′ : List ℕ} {n i r : ℕ} → n ≤ 255 → 255 < r → tooMany (decode s) ≡ true
-    → Turned s shape c h f n c′ h′ t′ f′ i r
-turned-many few l e =
+-- A row is new, or there are too many.
+pub turned-new : {s : List ℕ} {shape : Shape} {c c′ c″ : List ℤ} {h t f d h′ t′ f′ d′ h″ t″ f″ d″ : List ℕ} {n i a q : ℕ} → Turning s shape c h t f d n c′ h′ t′ f′ d′ i a n
+    → Outcome s shape c′ h′ t′ f′ d′ n c″ h″ t″ f″ d″ i a q → n < q → Turned s shape c h f d n c″ h″ t″ f″ d″ i q
+turned-new T O l =
     record {
-      many = λ k. e;
+      many = O .many;
       more = omega arith;
-      state = λ k. absurd (omega arith);
-      less = λ k. absurd (omega arith);
-      changed = λ k. absurd (omega arith);
-      followed = λ k. absurd (omega arith);
+      state = λ k. O .going k .state;
+      fell = λ k. falling-trans (T .fell) (O .going k .fell);
+      changed = λ k. changed-trans (omega arith) (O .going k .more) (T .changed) (O .going k .changed);
+      lowered = λ k g. let u = T .fell .falls in let w = O .going k .fell .falls in let x = O .going k .fell .rows-stay (omega arith) in absurd (omega arith);
+      bounded = λ e. absurd (omega arith);
+      near = λ e. absurd (omega arith);
     }
 
-pub turned : {s : List ℕ} {shape : Shape} (R : Ready s shape) {c c′ : List ℤ} {h t f h′ t′ f′ : List ℕ} {n i a r : ℕ} → State s shape c h t f n 255 0 → i < n → 0 < flagIn f i
-    → Going s shape c h (set f i 0) n c′ h′ t′ f′ i a r → Followed s shape c h n c′ h′ i a r → a ≡ shape .actions → Turned s shape c h f n c′ h′ t′ f′ i r
-unfolding measureIn
-turned {s} {shape} R {c} {c′} {h} {t} {f} {h′} {t′} {f′} {n} {i} {a} {r} S hi up G F e =
-    let few = G .state .working .few in
-    let b = S .flags-room in
-    let l = S .working .few in
-    record {
-      many = λ k. absurd (omega arith);
-      more = G .more;
-      changed = λ k. G .changed;
-      followed = λ k q b g. F q b (omega arith);
-      state = λ k. state-end R (G .state) e;
-      less = λ k.
-          measure-turn {f = flagIn f} {f₁ = flagIn (set f i 0)} {f′ = flagIn f′} i few hi up (getD-set-same f i 0 0 (omega arith)) (λ j q d. getD-set-other f i j 0 0 d) (G .fell);
-    }
+module _ {s : List ℕ} {shape : Shape} (R : Ready s shape) {c c′ : List ℤ} {h t f d h′ t′ f′ d′ : List ℕ} {n i a r : ℕ} (T : Turning s shape c h t f d n c′ h′ t′ f′ d′ i a r)
+    (e : a ≡ shape .actions) where
+  turned-with : (d″ : List ℕ) → freshIn d″ ≡ freshIn d′ → State s shape c′ h′ t′ f′ d″ r → Turned s shape c h f d n c′ h′ t′ f′ d″ i r
+  turned-with d″ v S =
+      let few = S .working .few in
+      record {
+        many = λ k. absurd (omega arith);
+        more = T .more;
+        state = λ k. S;
+        fell = λ k. T .fell;
+        changed = λ k. T .changed;
+        lowered = λ k g b w. T .lowered g b (omega arith);
+        bounded = λ g.
+            let B = T .bounded g in
+            let x = B .less in
+            record { less = omega arith; kept = λ k b l w q. B .kept k b l w (omega arith); own = λ q b w. B .own (omega arith) b (omega arith) };
+        near = λ g k D b w. T .reaches g (λ j. k) D b (omega arith) .near k (inr (omega arith));
+      }
 
--- What the refinement of n rows gives: no row in work and no flag up, or too many blocks.
-pub record Stable (s : List ℕ) (shape : Shape) (c : List ℤ) (h t f : List ℕ) (r : ℕ) : Type 0 where
+  -- all its actions are done, and it may be said to be deeper
+  pub turned : (d″ : List ℕ) → State s shape c h t f d n → i < n → r ≡ n → length d″ ≡ length d′ → Deepened t′ d′ d″ (shape .actions) i → Turned s shape c h f d n c′ h′ t′ f′ d″ i r
+  turned d″ S hi g l D =
+      let few = S .working .few in
+      turned-with d″ (D .others 511 (λ e. omega arith))
+      (state-deeper R (T .state) d″ i (omega arith) l
+      (λ b w.
+      subst (λ (k : ℕ). ReachesIn s shape c′ h′ k (depthIn d′) i b (targetIn t′ i b)) (sym g)
+      (T .reaches g (depthIn d′)
+      (λ k q. subst (λ (v : ℕ). Deep (sheetFrame (decode s)) n (rowIn (shape .counters) c h) v k) (sym (T .depths-kept g k (omega arith))) (S .working .deep k q)) b (omega arith))) D)
+
+-- the measure of the arrays
+unfoldable pub measureIn : Shape → List ℤ → List ℕ → List ℕ → ℕ → ℕ
+measureIn shape c h f n = measure (potentialIn shape c h n) (flagIn f) (shape .actions) n
+
+-- What the refinement of n rows gives: no flag up, or too many blocks.
+pub record Stable (s : List ℕ) (shape : Shape) (c : List ℤ) (h t f d : List ℕ) (r : ℕ) : Type 0 where
   pub many : 255 < r → tooMany (decode s) ≡ true
-  pub state : r ≤ 255 → State s shape c h t f r 255 0
-  pub quiet : r ≤ 255 → (k : ℕ) → k < r → flagIn f k ≡ 0
+  pub state : r ≤ 255 → State s shape c h t f d r
+  pub quiet : r ≤ 255 → (k : ℕ) → k < r → DownBelow f k (shape .actions)
 
-pub stable-many : {s : List ℕ} {shape : Shape} {c : List ℤ} {h t f : List ℕ} {r : ℕ} → 255 < r → tooMany (decode s) ≡ true → Stable s shape c h t f r
+pub stable-many : {s : List ℕ} {shape : Shape} {c : List ℤ} {h t f d : List ℕ} {r : ℕ} → 255 < r → tooMany (decode s) ≡ true → Stable s shape c h t f d r
 stable-many l e = record { many = λ k. e; state = λ k. absurd (omega arith); quiet = λ k. absurd (omega arith) }
 
-pub stable-now : {s : List ℕ} {shape : Shape} {c : List ℤ} {h t f : List ℕ} {n k : ℕ} → State s shape c h t f n 255 0 → LastRaised (flagIn f) n n k → n ≤ k → Stable s shape c h t f n
+pub stable-now : {s : List ℕ} {shape : Shape} {c : List ℤ} {h t f d : List ℕ} {n k : ℕ} → State s shape c h t f d n → LastRaised f (shape .actions) n k → n ≤ k → Stable s shape c h t f d n
 stable-now S L l =
     let b = L .few in
     let d = S .working .few in
@@ -296,35 +427,22 @@ pub data Answered (s : List ℕ) (shape : Shape) (c : List ℤ) (h t : List ℕ)
   refused : tooMany (decode s) ≡ true → Answered s shape c h t TooMany
   done : {n : ℕ} → Table s shape c h t n → Answered s shape c h t (Done n)
 
-pub answer-many : {s : List ℕ} {shape : Shape} {c : List ℤ} {h t f : List ℕ} {r : ℕ} → Stable s shape c h t f r → 255 < r → Answered s shape c h t TooMany
+pub answer-many : {s : List ℕ} {shape : Shape} {c : List ℤ} {h t f d : List ℕ} {r : ℕ} → Stable s shape c h t f d r → 255 < r → Answered s shape c h t TooMany
 answer-many S l = refused (S .many l)
 
-pub answer-done : {s : List ℕ} {shape : Shape} (R : Ready s shape) {c : List ℤ} {h t f : List ℕ} {r : ℕ} → Stable s shape c h t f r → r ≤ 255 → Answered s shape c h t (Done r)
+pub answer-done : {s : List ℕ} {shape : Shape} (R : Ready s shape) {c : List ℤ} {h t f d : List ℕ} {r : ℕ} → Stable s shape c h t f d r → r ≤ 255 → Answered s shape c h t (Done r)
 answer-done R S l =
     let Q = S .state l in
     done (record { completed = state-done R Q (S .quiet l); located = Q .located; bounded = λ k b. ranges-bounded R Q k b })
-
--- the step of a barred action
-pub barred-step : {s : List ℕ} {shape : Shape} (R : Ready s shape) {c : List ℤ} {h t f : List ℕ} {n i a : ℕ} (S : State s shape c h t f n i a) → i < n → a < shape .actions → {m : RegionMove}
-    → m ≡ moveIn (shape .counters) s (regionIn h i) a → m .kind ≡ Barred → Outcome s shape c h f n c h (set t (255 * a + i) 255) f i (a + 1) n
-barred-step {s} {shape} R {c} {h} {t} {f} {n} {i} {a} S hi ha {m} e d =
-    going-on
-    (advanced (state-barred R S hi ha (barred-at R S i a hi ha e d)) (falling-refl (rowsPotential n (rowIn (shape .counters) c h)) (flagIn f) n)
-    (advance-stopped R S hi (barred-at R S i a hi ha e d)))
-
--- the loop of a turn: on, or out with too many
-pub then-going : {s : List ℕ} {shape : Shape} → Ready s shape → {c c′ c″ : List ℤ} {h f h′ t′ f′ h″ t″ f″ : List ℕ} {n i a r b q : ℕ} → Going s shape c h f n c′ h′ t′ f′ i a r
-    → Outcome s shape c′ h′ f′ r c″ h″ t″ f″ i b q → q ≤ 255 → Going s shape c h f n c″ h″ t″ f″ i b q
-then-going R G O l = then-outcome R G O .going l
 
 -- the first state, as the code makes it
 pub started-covered : {s : List ℕ} {shape : Shape} (R : Ready s shape) (x : Config) → x ≡ startThree s → Covered (decode s) (configMeant (shape .counters) x)
 started-covered {s} {shape} R x e = subst (λ (y : Config). Covered (decode s) (configMeant (shape .counters) y)) (sym e) (start-covered R)
 
-pub started : {s : List ℕ} {shape : Shape} (R : Ready s shape) (x : Config) (c : List ℤ) (h t f : List ℕ) (c′ : List ℤ) (h′ f′ : List ℕ) → CellsRoom c → HomesRoom h → TargetsRoom t → FlagsRoom f
-    → x ≡ startThree s → c′ ≡ newCells (shape .counters) s c 0 x → h′ ≡ newHomes (shape .counters) s h 0 x → f′ ≡ set f 0 1 → State s shape c′ h′ t f′ 1 255 0
-started {s} {shape} R x c h t f c′ h′ f′ rc rh rt rf e ec eh ef =
-    subst (λ (l : List ℤ). State s shape l h′ t f′ 1 255 0) (sym (ec ∙ ap (newCells (shape .counters) s c 0) e))
-    (subst (λ (l : List ℕ). State s shape (newCells (shape .counters) s c 0 (startThree s)) l t f′ 1 255 0) (sym (eh ∙ ap (newHomes (shape .counters) s h 0) e))
-    (subst (λ (l : List ℕ). State s shape (newCells (shape .counters) s c 0 (startThree s)) (newHomes (shape .counters) s h 0 (startThree s)) t l 1 255 0) (sym ef)
-    (state-first R c h t f rc rh rt rf)))
+pub started : {s : List ℕ} {shape : Shape} (R : Ready s shape) (x : Config) (c : List ℤ) (h t f d : List ℕ) (c′ : List ℤ) (h′ f′ d′ : List ℕ) → CellsRoom c → HomesRoom h → TargetsRoom t
+    → FlagsRoom f′ → DepthsRoom d′ → x ≡ startThree s → c′ ≡ newCells (shape .counters) s c 0 x → h′ ≡ newHomes (shape .counters) s h 0 x → RowRaised f f′ 0 → Begun d d′ 0
+    → State s shape c′ h′ t f′ d′ 1
+started {s} {shape} R x c h t f d c′ h′ f′ d′ rc rh rt rf rd e ec eh U B =
+    subst (λ (l : List ℤ). State s shape l h′ t f′ d′ 1) (sym (ec ∙ ap (newCells (shape .counters) s c 0) e))
+    (subst (λ (l : List ℕ). State s shape (newCells (shape .counters) s c 0 (startThree s)) l t f′ d′ 1) (sym (eh ∙ ap (newHomes (shape .counters) s h 0) e))
+    (state-first R c h t f f′ d d′ rc rh rt rf rd U B))

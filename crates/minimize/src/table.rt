@@ -1,89 +1,118 @@
 // The refinement: representatives with shrinking boxes, until no row can be unstable.
 ghost use Prim.Native.Nat.{_<_, _≤_};
-ghost use Rattle.tables.specs.Arrays.{CellsRoom, HomesRoom, TargetsRoom, FlagsRoom, flagIn};
+ghost use Rattle.model.specs.DepthBound.{Doublings};
+ghost use Rattle.sheet_bytes.specs.Decode.{decode};
+ghost use Rattle.tables.specs.Arrays.{CellsRoom, HomesRoom, TargetsRoom, FlagsRoom, DepthsRoom};
 ghost use Rattle.tables.specs.Meaning.{Ready};
 ghost use Rattle.minimize.specs.State.{State};
 ghost use Rattle.minimize.specs.Steps.{Stable, Answered};
-ghost use Rattle.minimize.specs.Passes.{DownAbove, Counted, Swept};
+ghost use Rattle.minimize.specs.Passes.{DownAbove, Swept};
 use crate::Refined;
 use crate::steps::turn;
+use depth_bound::doublings;
+use depth_bound::exact_depth;
 use sheet_bytes::Shape;
 use sheet_bytes::fields::start_of;
+use tables::depths::depth_after;
+use tables::depths::sure_depth;
 use tables::growth::append;
+use tables::marks::any_raised;
 use tables::marks::last_raised;
 
-// How many passes have gone by since a row was new, counted up to 256.
-fn passes_after(passes: usize, n: usize, rows: usize) -> usize
-    requires { ⌜ passes ≤ 256 ⌝ }
-    ensures { λ r. ⌜ Counted passes n rows r ⌝ }
-{
-    if rows > n {
-        return 0;
-    }
-    if passes < 256 { passes + 1 } else { passes }
-}
-
-// A pass: turns of the rows whose flags are up, from row `last`, which is the last of them, to the first. It ends where a row is new.
-pub fn sweep(
+// A pass: turns of the rows of which a flag is up, from row `last`, which is the last of them, down to the first that may have one. It ends where a row is new.
+pub(crate) fn sweep(
     s: &[u8],
     shape: Shape,
     cells: &mut [i64],
     homes: &mut [u8],
     targets: &mut [u8],
     flags: &mut [u8],
+    depths: &mut [usize],
     n: usize,
     last: usize,
 ) -> usize
     requires { ⌜ Ready (now s) shape ⌝ }
-    requires { ⌜ State (now s) shape (now cells) (now homes) (now targets) (now flags) n 255 0 ⌝ }
-    requires { ⌜ (last < n) × (0 < flagIn (now flags) last) × DownAbove (now flags) last n ⌝ }
-    ensures { λ r. ⌜ Swept (now (s .entry)) shape (now (cells .entry)) (now (homes .entry)) (now (flags .entry)) n (now (cells .exit)) (now (homes .exit)) (now (targets .exit)) (now (flags .exit)) r ⌝ }
+    requires { ⌜ State (now s) shape (now cells) (now homes) (now targets) (now flags) (now depths) n ⌝ }
+    requires { ⌜ (last < n) × DownAbove (now flags) (shape .actions) last n ⌝ }
+    ensures { λ r. ⌜ Swept (now (s .entry)) shape (now (cells .entry)) (now (homes .entry)) (now (flags .entry)) n (now (cells .exit)) (now (homes .exit)) (now (targets .exit)) (now (flags .exit)) (now (depths .exit)) r ⌝ }
 {
+    depths[511] = 255;
     let mut k = last + 1;
-    while k > 0 {
+    while k > depths[510] {
         k -= 1;
-        if flags[k] > 0 {
-            let rows = turn(s, shape, cells, homes, targets, flags, n, k);
+        if any_raised(flags, shape.actions, k) {
+            let rows = turn(s, shape, cells, homes, targets, flags, depths, n, k);
             if rows > n {
                 return rows;
             }
         }
     }
+    depths[510] = depths[511];
     n
 }
 
-// Passes until no flag is up. Rows that are 256 passes deep have every block, if there are at most 255: then a new row means more.
-pub fn stabilize(
+// Passes until no flag is up. If there are at most 255 blocks, rows that are all 255 deep have every block, so that a new row means more; and rows that are as
+// deep as `exact_depth` are the blocks, so that a flag which a pass over such rows raised means more.
+pub(crate) fn stabilize(
     s: &[u8],
     shape: Shape,
     cells: &mut [i64],
     homes: &mut [u8],
     targets: &mut [u8],
     flags: &mut [u8],
+    depths: &mut [usize],
+    m: usize,
 ) -> usize
     requires { ⌜ Ready (now s) shape ⌝ }
-    requires { ⌜ State (now s) shape (now cells) (now homes) (now targets) (now flags) 1 255 0 ⌝ }
-    ensures { λ r. ⌜ Stable (now (s .entry)) shape (now (cells .exit)) (now (homes .exit)) (now (targets .exit)) (now (flags .exit)) r ⌝ }
+    requires { ⌜ State (now s) shape (now cells) (now homes) (now targets) (now flags) (now depths) 1 ⌝ }
+    requires { ⌜ (m ≤ 21) × Doublings (decode (now s)) m ⌝ }
+    ensures { λ r. ⌜ Stable (now (s .entry)) shape (now (cells .exit)) (now (homes .exit)) (now (targets .exit)) (now (flags .exit)) (now (depths .exit)) r ⌝ }
 {
     let mut n = 1;
-    let mut passes = 0;
+    let mut depth = 0;
+    let mut before = 0;
     loop {
-        let last = last_raised(flags, n, n);
+        let last = last_raised(flags, shape.actions, n);
         if last >= n {
             return n;
         }
-        let rows = sweep(s, shape, cells, homes, targets, flags, n, last);
+        if before >= exact_depth(shape.counters, n, m) {
+            return 256;
+        }
+        before = sure_depth(depths, n, depth);
+        let rows = sweep(s, shape, cells, homes, targets, flags, depths, n, last);
         if rows > 255 {
             return rows;
         }
         if rows > n {
-            if passes > 255 {
+            if before > 254 {
                 return 256;
             }
         }
-        passes = passes_after(passes, n, rows);
+        depth = depth_after(depths, n, rows, before);
         n = rows;
     }
+}
+
+// The first table: the start with its region.
+pub(crate) fn begin(
+    s: &[u8],
+    shape: Shape,
+    cells: &mut [i64],
+    homes: &mut [u8],
+    targets: &[u8],
+    flags: &mut [u8],
+    depths: &mut [usize],
+)
+    requires { ⌜ Ready (now s) shape ⌝ }
+    requires { ⌜ CellsRoom (now cells) ⌝ }
+    requires { ⌜ HomesRoom (now homes) ⌝ }
+    requires { ⌜ TargetsRoom (now targets) ⌝ }
+    requires { ⌜ FlagsRoom (now flags) ⌝ }
+    requires { ⌜ DepthsRoom (now depths) ⌝ }
+    ensures { λ _. ⌜ State (now (s .entry)) shape (now (cells .exit)) (now (homes .exit)) (now (targets .entry)) (now (flags .exit)) (now (depths .exit)) 1 ⌝ }
+{
+    append(s, shape, cells, homes, flags, depths, 0, start_of(s, shape));
 }
 
 // The table of the sheet's blocks, in the lent arrays.
@@ -93,17 +122,18 @@ pub fn refine(
     cells: &mut [i64],
     homes: &mut [u8],
     targets: &mut [u8],
-    flags: &mut [u8],
 ) -> Refined
     requires { ⌜ Ready (now s) shape ⌝ }
     requires { ⌜ CellsRoom (now cells) ⌝ }
     requires { ⌜ HomesRoom (now homes) ⌝ }
     requires { ⌜ TargetsRoom (now targets) ⌝ }
-    requires { ⌜ FlagsRoom (now flags) ⌝ }
     ensures { λ r. ⌜ Answered (now (s .entry)) shape (now (cells .exit)) (now (homes .exit)) (now (targets .exit)) r ⌝ }
 {
-    append(s, shape, cells, homes, flags, 0, start_of(s, shape));
-    let n = stabilize(s, shape, cells, homes, targets, flags);
+    let mut flags = [0u8; 2040];
+    let mut depths = [0usize; 512];
+    begin(s, shape, cells, homes, targets, &mut flags, &mut depths);
+    let m = doublings(s, shape);
+    let n = stabilize(s, shape, cells, homes, targets, &mut flags, &mut depths, m);
     if n > 255 {
         return Refined::TooMany;
     }

@@ -1,12 +1,14 @@
--- Why the algorithm ends: a potential of the rows' widths that falls with each change, and a measure that falls with each turn. Numbers only.
+-- Why the algorithm ends: a potential of the rows' widths that falls with each change, and a measure that falls with each pass. Numbers only.
 use Prim.Native.Nat.{ℕ, zero, suc, _+_, _*_, _-_, _≤_, _<_}
 use native.Mathlib.Nat.{mul-suc, not-suc-le-zero}
 use native.Mathlib.Decide.{ℕ-discrete}
 use native.Mathlib.Omega.{arith}
 use mathlib.Core.Path.{_≡_, refl, ap, _∙_}
 use mathlib.Core.Logic.{⊎-elim}
-use Rattle.systems.specs.Search.{run}
-use Rattle.systems.specs.Laws.{run-ext, below-suc}
+use mathlib.Core.Bool.{Bool, true, false}
+use lib.Dec.{T, ltb, ltb→lt, lt→ltb}
+use Rattle.systems.specs.Search.{any, run}
+use Rattle.systems.specs.Laws.{run-ext, below-suc, any-true, is-true, is-false}
 
 -- the sum of f 0 .. f (n - 1)
 abbrev pub total : (ℕ → ℕ) → ℕ → ℕ
@@ -62,111 +64,77 @@ potential-append c width width′ n h l e =
     let m : c * (255 - n) ≡ c * (255 - suc n) + c = ap (λ (k : ℕ). c * k) d ∙ mul-suc c (255 - suc n) in
     omega arith
 
--- 1 for a flag that is up
-unfoldable pub flagUp : ℕ → ℕ
-flagUp zero = 0
-flagUp (suc k) = 1
+-- one of the flags of n rows is up
+abbrev someUp : (ℕ → ℕ → ℕ) → ℕ → ℕ → Bool
+someUp f actions n = any (λ k. any (λ b. ltb 0 (f k b)) actions) n
 
--- how many of the flags of n rows are up
-unfoldable pub raised : (ℕ → ℕ) → ℕ → ℕ
-raised f n = total (λ k. flagUp (f k)) n
+-- 1 where one of them is, else 0
+unfoldable pub anyUp : (ℕ → ℕ → ℕ) → ℕ → ℕ → ℕ
+anyUp f actions n = elim (someUp f actions n) [ true ↦ 1 | false ↦ 0 ]
 
-flagUp-zero : flagUp 0 ≡ 0
-unfolding flagUp
-flagUp-zero = refl
+up-le : (f : ℕ → ℕ → ℕ) (actions n : ℕ) → anyUp f actions n ≤ 1
+unfolding anyUp
+up-le f actions n = go (someUp f actions n)
+  where
+    go : (b : Bool) → elim b [ true ↦ 1 | false ↦ 0 ] ≤ 1
+    go true = omega arith
+    go false = omega arith
 
-flagUp-le : (k : ℕ) → flagUp k ≤ 1
-unfolding flagUp
-flagUp-le zero = omega arith
-flagUp-le (suc k) = omega arith
+up-some : (f : ℕ → ℕ → ℕ) (actions n k b : ℕ) → k < n → b < actions → 0 < f k b → anyUp f actions n ≡ 1
+unfolding anyUp
+up-some f actions n k b h l u =
+    rw (
+      is-true (someUp f actions n)
+          (any-true (λ k. any (λ b. ltb 0 (f k b)) actions) n .1 (k, h, any-true (λ b. ltb 0 (f k b)) actions .1 (b, l, lt→ltb 0 (f k b) u))),
+      anyUp,
+    ) refl
 
-flagUp-up : (k : ℕ) → 0 < k → flagUp k ≡ 1
-unfolding flagUp
-flagUp-up zero h = absurd (omega arith)
-flagUp-up (suc k) h = refl
+up-none : (f : ℕ → ℕ → ℕ) (actions n : ℕ) → ((k b : ℕ) → k < n → b < actions → f k b ≡ 0) → anyUp f actions n ≡ 0
+unfolding anyUp
+up-none f actions n e = rw (is-false (someUp f actions n) none, anyUp) refl
+  where
+    none : T (someUp f actions n) → ⊥
+    none t =
+        let (k, h, v) = any-true (λ k. any (λ b. ltb 0 (f k b)) actions) n .0 t in
+        let (b, l, u) = any-true (λ b. ltb 0 (f k b)) actions .0 v in
+        let w = ltb→lt 0 (f k b) u in
+        let z = e k b h l in
+        omega arith
 
-flagUp-down : (k : ℕ) → flagUp k ≡ 0 → k ≡ 0
-unfolding flagUp
-flagUp-down zero e = refl
-flagUp-down (suc k) e = absurd (omega arith)
+-- The measure of a loop of passes: the potential first, then whether a flag is up.
+unfoldable pub measure : ℕ → (ℕ → ℕ → ℕ) → ℕ → ℕ → ℕ
+measure p f actions n = 2 * p + anyUp f actions n
 
-pub raised-le : (f : ℕ → ℕ) (n : ℕ) → raised f n ≤ n
-unfolding raised
-raised-le f n = let r = total-bound (λ k. flagUp (f k)) 1 n (λ k h. flagUp-le (f k)) in omega arith
+-- A pass that finds a flag up makes it smaller: the potential falls, or no flag is up any more.
+pub measure-pass : (p p′ : ℕ) (f f′ : ℕ → ℕ → ℕ) (actions n n′ k b : ℕ) → k < n → b < actions → 0 < f k b → p′ ≤ p
+    → (p′ ≡ p → (j c : ℕ) → j < n′ → c < actions → f′ j c ≡ 0) → measure p′ f′ actions n′ < measure p f actions n
+unfolding measure
+measure-pass p p′ f f′ actions n n′ k b h w u l z = go (ℕ-discrete p′ p)
+  where
+    go : Dec (p′ ≡ p) → 2 * p′ + anyUp f′ actions n′ < 2 * p + anyUp f actions n
+    go (yes q) = let a = up-some f actions n k b h w u in let c = up-none f′ actions n′ (z q) in omega arith
+    go (no q) = let c = up-le f′ actions n′ in omega arith
 
-pub raised-same : (f f′ : ℕ → ℕ) (n : ℕ) → ((k : ℕ) → k < n → f′ k ≡ f k) → raised f′ n ≡ raised f n
-unfolding raised
-raised-same f f′ n e = run-ext 0 _+_ (λ k. flagUp (f′ k)) (λ k. flagUp (f k)) n (λ k h. ap flagUp (e k h))
-
--- one flag lowered
-pub raised-lower : (f f′ : ℕ → ℕ) (n i : ℕ) → i < n → 0 < f i → f′ i ≡ 0 → ((k : ℕ) → k < n → (k ≡ i → ⊥) → f′ k ≡ f k) → suc (raised f′ n) ≡ raised f n
-unfolding raised
-raised-lower f f′ n i h u d e =
-    let r = total-change (λ k. flagUp (f k)) (λ k. flagUp (f′ k)) n i h (λ k b q. ap flagUp (e k b q)) in
-    let a = flagUp-up (f i) u in
-    let b = ap flagUp d in
-    omega (arith, flagUp-zero)
-
--- no flag is up
-pub raised-none : (f : ℕ → ℕ) (n : ℕ) → raised f n ≡ 0 → (k : ℕ) → k < n → f k ≡ 0
-unfolding raised run
-raised-none f zero e k h = absurd (not-suc-le-zero h)
-raised-none f (suc n) e k h =
-    ⊎-elim
-    (λ q. flagUp-down (f k) (let p = ap (λ (m : ℕ). flagUp (f m)) q in omega arith))
-    (λ b. raised-none f n (omega arith) k b)
-    (below-suc h)
-
--- The measure: the potential first, then the number of flags that are up.
-unfoldable pub measure : ℕ → (ℕ → ℕ) → ℕ → ℕ
-measure p f n = 256 * p + raised f n
-
--- Of what happens between two states of the loop, with potentials p and p′: the potential does not rise, and where it stays, so do the rows and the flags.
-pub record Falling (p p′ : ℕ) (f f′ : ℕ → ℕ) (n n′ : ℕ) : Type 0 where
+-- Of what happens between two states of the loop, with potentials p and p′: the potential does not rise, and where it stays, so do the rows, and no flag rises.
+pub record Falling (p p′ : ℕ) (f f′ : ℕ → ℕ → ℕ) (n n′ : ℕ) : Type 0 where
   pub falls : p′ ≤ p
   pub rows-stay : p′ ≡ p → n′ ≡ n
-  pub flags-stay : p′ ≡ p → (k : ℕ) → k < n → f′ k ≡ f k
+  pub flags-down : p′ ≡ p → (k b : ℕ) → k < n → b < 8 → f k b ≡ 0 → f′ k b ≡ 0
 
-pub falling-refl : (p : ℕ) (f : ℕ → ℕ) (n : ℕ) → Falling p p f f n n
-falling-refl p f n = record { falls = omega arith; rows-stay = λ e. refl; flags-stay = λ e k h. refl }
+pub falling-refl : (p : ℕ) (f : ℕ → ℕ → ℕ) (n : ℕ) → Falling p p f f n n
+falling-refl p f n = record { falls = omega arith; rows-stay = λ e. refl; flags-down = λ e k b h l z. z }
 
 -- a potential that falls, whatever happens to rows and flags
-pub falling-less : {p p′ : ℕ} {f f′ : ℕ → ℕ} {n n′ : ℕ} → p′ < p → Falling p p′ f f′ n n′
-falling-less h = record { falls = omega arith; rows-stay = λ e. absurd (omega arith); flags-stay = λ e. absurd (omega arith) }
+pub falling-less : {p p′ : ℕ} {f f′ : ℕ → ℕ → ℕ} {n n′ : ℕ} → p′ < p → Falling p p′ f f′ n n′
+falling-less h = record { falls = omega arith; rows-stay = λ e. absurd (omega arith); flags-down = λ e. absurd (omega arith) }
 
-pub falling-trans : {p q r : ℕ} {f g h : ℕ → ℕ} {n m k : ℕ} → Falling p q f g n m → Falling q r g h m k → Falling p r f h n k
+pub falling-trans : {p q r : ℕ} {f g h : ℕ → ℕ → ℕ} {n m k : ℕ} → Falling p q f g n m → Falling q r g h m k → Falling p r f h n k
 falling-trans {p} {q} {r} {f} {g} {h} {n} {m} {k} A B =
     let a = A .falls in
     let b = B .falls in
     record {
       falls = omega arith;
       rows-stay = λ e. B .rows-stay (omega arith) ∙ A .rows-stay (omega arith);
-      flags-stay =
-          λ e i l. let d = A .rows-stay (omega arith) in B .flags-stay (omega arith) i (omega arith) ∙ A .flags-stay (omega arith) i l;
+      flags-down =
+          λ e i c l u z. let d = A .rows-stay (omega arith) in B .flags-down (omega arith) i c (omega arith) u (A .flags-down (omega arith) i c l u z);
     }
-
--- A turn lowers a flag that was up and then does what only lets the potential fall: the measure is smaller.
-pub measure-turn : {p p′ : ℕ} {f f₁ f′ : ℕ → ℕ} {n n′ : ℕ} (i : ℕ) → n′ ≤ 255 → i < n → 0 < f i → f₁ i ≡ 0
-    → ((k : ℕ) → k < n → (k ≡ i → ⊥) → f₁ k ≡ f k) → Falling p p′ f₁ f′ n n′ → measure p′ f′ n′ < measure p f n
-unfolding measure
-measure-turn {p} {p′} {f} {f₁} {f′} {n} {n′} i c h u d e A = go (ℕ-discrete p′ p)
-  where
-    go : Dec (p′ ≡ p) → 256 * p′ + raised f′ n′ < 256 * p + raised f n
-    go (yes q) =
-        let a = raised-lower f f₁ n i h u d e in
-        let b = raised-same f₁ f′ n (A .flags-stay q) in
-        let z = ap (raised f′) (A .rows-stay q) in
-        omega arith
-    go (no q) = let a = A .falls in let b = raised-le f′ n′ in omega arith
-
--- Without a flag lowered, the measure does not rise.
-pub measure-falling : {p p′ : ℕ} {f f′ : ℕ → ℕ} {n n′ : ℕ} → n′ ≤ 255 → Falling p p′ f f′ n n′ → measure p′ f′ n′ ≤ measure p f n
-unfolding measure
-measure-falling {p} {p′} {f} {f′} {n} {n′} c A = go (ℕ-discrete p′ p)
-  where
-    go : Dec (p′ ≡ p) → 256 * p′ + raised f′ n′ ≤ 256 * p + raised f n
-    go (yes q) =
-        let b = raised-same f f′ n (A .flags-stay q) in
-        let z = ap (raised f′) (A .rows-stay q) in
-        omega arith
-    go (no q) = let a = A .falls in let b = raised-le f′ n′ in omega arith

@@ -1,20 +1,14 @@
 -- The refinement's table in flat arrays: for each row nine cells (three values, then three ranges, each low and high), two homes (the number of the region
--- of its representative, and its state) and a flag; and for each action a target of each of the 255 rows.
+-- of its representative, and its state), a depth and a lowest source; for each action a target and a flag of each of the 255 rows; and behind depths and
+-- sources two bounds on the rows with a flag up.
 use mathlib.Core.Path.{_≡_, refl, sym, ap, _∙_}
-use mathlib.Core.Bool.{Bool, true, false, _||_}
 use mathlib.Core.List.{List}
 use Prim.Native.Nat.{ℕ, _+_, _*_, _-_, _≤_, _<_}
-use native.Mathlib.Numerals.{add-one}
-use native.Mathlib.Decide.{ℕ-discrete}
 use native.Mathlib.Omega.{arith}
-use lib.Dec.{eqb}
-use borrow.Author.Tests.{eq-eqb, ne-eqb}
 use lib.ListN.{length, getD, set, length-set}
 use lib.Seq.{getD-set-same, getD-set-other}
 use lib.IntN.{ℤ, pos}
 use Rattle.integers.specs.declared.Range.{Range}
-use Rattle.systems.specs.Search.{any, run}
-use Rattle.refinement.specs.Flags.{flagged}
 use Rattle.sheet_bytes.specs.declared.Ranges.{Ranges}
 use Rattle.sheet_bytes.specs.declared.RegionBox.{RegionBox}
 use Rattle.sheet_bytes.specs.declared.Values.{Values}
@@ -31,7 +25,10 @@ abbrev pub TargetsRoom : List ℕ → Type 0
 TargetsRoom t = length t ≡ 2040
 
 abbrev pub FlagsRoom : List ℕ → Type 0
-FlagsRoom f = length f ≡ 255
+FlagsRoom f = length f ≡ 2040
+
+abbrev pub DepthsRoom : List ℕ → Type 0
+DepthsRoom d = length d ≡ 512
 
 -- what is stored of row k
 unfoldable pub rangeIn : List ℤ → ℕ → Range
@@ -58,8 +55,22 @@ boxIn c h k = record { state = stateIn h k; ranges = rangesIn c k }
 abbrev pub targetIn : List ℕ → ℕ → ℕ → ℕ
 targetIn t k b = getD t (255 * b + k) 0
 
-abbrev pub flagIn : List ℕ → ℕ → ℕ
-flagIn f k = getD f k 0
+abbrev pub flagIn : List ℕ → ℕ → ℕ → ℕ
+flagIn f k b = getD f (255 * b + k) 0
+
+abbrev pub depthIn : List ℕ → ℕ → ℕ
+depthIn d k = getD d k 0
+
+-- a row below which none leads to row k by an action whose flag is down
+abbrev pub sourceIn : List ℕ → ℕ → ℕ
+sourceIn d k = getD d (255 + k) 0
+
+-- a row below which no flag is up, and one below which this pass has raised none
+abbrev pub firstIn : List ℕ → ℕ
+firstIn d = getD d 510 0
+
+abbrev pub freshIn : List ℕ → ℕ
+freshIn d = getD d 511 0
 
 -- the cells after a range, all ranges or all values of row k were stored
 unfoldable pub putRange : List ℤ → ℕ → Range → List ℤ
@@ -235,13 +246,6 @@ module _ (h : List ℕ) (i region state : ℕ) where
       getD-set-other (set h (2 * i) region) (2 * i + 1) (2 * k + 1) state 0 (λ e. n (omega arith))
       ∙ getD-set-other h (2 * i) (2 * k + 1) region 0 (λ e. omega arith)
 
--- Of a search for a row below at whose flag is up: it is found, or it is n and there is none.
-pub record LastRaised (f : ℕ → ℕ) (n at k : ℕ) : Type 0 where
-  pub few : k ≤ n
-  pub found : k < n → 0 < f k
-  pub above : k < n → (i : ℕ) → k < i → i < at → f i ≡ 0
-  pub none : k ≡ n → (i : ℕ) → i < at → f i ≡ 0
-
 -- what the readers and writers of rows give
 pub range-read : (c : List ℤ) (at : ℕ) (l h : ℤ) → l ≡ getD c at (pos 0) → h ≡ getD c (at + 1) (pos 0) → _≡_ {A = Range} (record { low = l; high = h }) (rangeIn c at)
 unfolding rangeIn
@@ -273,62 +277,3 @@ pub values-write : (c : List ℤ) (k : ℕ) (r : Values) (x y z : ℤ) → x ≡
     → set (set (set c (9 * k) x) (9 * k + 1) y) (9 * k + 2) z ≡ putValues c k r
 unfolding putValues
 values-write c k r x y z d e f = λ i. set (set (set c (9 * k) (d i)) (9 * k + 1) (e i)) (9 * k + 2) (f i)
-
--- a flag after a look at one target: up, if that is i
-unfoldable pub raisedBy : ℕ → ℕ → ℕ → ℕ
-raisedBy target i old = elim (eqb target i) [ true ↦ 1 | false ↦ old ]
-
-pub raised-up : (target i old : ℕ) → target ≡ i → 1 ≡ raisedBy target i old
-unfolding raisedBy
-raised-up target i old e = rw (eq-eqb target i e, raisedBy) refl
-
-pub raised-left : (target i old : ℕ) → (target ≡ i → ⊥) → old ≡ raisedBy target i old
-unfolding raisedBy
-raised-left target i old n = rw (ne-eqb target i n, raisedBy) refl
-
--- the flags below k are as g says, and the others as they were
-pub record StoredTo (g : ℕ → ℕ) (f f′ : List ℕ) (k : ℕ) : Type 0 where
-  pub same-length : length f′ ≡ length f
-  pub done : (j : ℕ) → j < k → flagIn f′ j ≡ g j
-  pub left : (j : ℕ) → k ≤ j → flagIn f′ j ≡ flagIn f j
-
-pub stored-none : (g : ℕ → ℕ) (f : List ℕ) → StoredTo g f f 0
-stored-none g f = record { same-length = refl; done = λ j h. absurd (omega arith); left = λ j h. refl }
-
-pub stored-more : {g : ℕ → ℕ} {f f′ : List ℕ} (k v : ℕ) → k < length f → StoredTo g f f′ k → v ≡ g k → StoredTo g f (set f′ k v) (k + 1)
-stored-more {g} {f} {f′} k v h S e =
-    record {
-      same-length = length-set f′ k v ∙ S .same-length;
-      done = λ j l. go j l (ℕ-discrete j k);
-      left = λ j l. getD-set-other f′ k j v 0 (λ q. omega arith) ∙ S .left j (omega arith);
-    }
-  where
-    go : (j : ℕ) → j < k + 1 → Dec (j ≡ k) → flagIn (set f′ k v) j ≡ g j
-    go j l (yes q) = ap (λ (m : ℕ). flagIn (set f′ k v) m) q ∙ getD-set-same f′ k v 0 (omega (arith, S .same-length)) ∙ e ∙ sym (ap g q)
-    go j l (no q) = getD-set-other f′ k j v 0 q ∙ S .done j (omega arith)
-
--- the flags after no target of each row was looked at, and after one more
-pub flagged-none : (t : ℕ → ℕ → ℕ) (i : ℕ) (f : ℕ → ℕ) (k : ℕ) → f k ≡ flagged t 0 i f k
-unfolding flagged run
-flagged-none t i f k = refl
-
-pub flagged-more : (t : ℕ → ℕ → ℕ) (b i : ℕ) (f : ℕ → ℕ) (k v : ℕ) → v ≡ flagged t b i f k → raisedBy (t k b) i v ≡ flagged t (b + 1) i f k
-unfolding flagged run raisedBy
-flagged-more t b i f k v e = ap (raisedBy (t k b) i) e ∙ go (any (λ d. eqb (t k d) i) b) (eqb (t k b) i) ∙ ap (λ (m : ℕ). flagged t m i f k) (sym (add-one b))
-  where
-    go : (p q : Bool) → _≡_ {A = ℕ} (elim q [ true ↦ 1 | false ↦ elim p [ true ↦ 1 | false ↦ f k ] ]) (elim (p || q) [ true ↦ 1 | false ↦ f k ])
-    go true true = refl
-    go false true = refl
-    go true false = refl
-    go false false = refl
-
--- of a search from at downwards: no flag from k up to at is up
-abbrev pub NoneFrom : List ℕ → ℕ → ℕ → Type 0
-NoneFrom f k at = (i : ℕ) → k ≤ i → i < at → flagIn f i ≡ 0
-
-pub none-more : (f : List ℕ) (k at : ℕ) → 0 < k → NoneFrom f k at → flagIn f (k - 1) ≡ 0 → NoneFrom f (k - 1) at
-none-more f k at p N e i l h = go (ℕ-discrete i (k - 1))
-  where
-    go : Dec (i ≡ k - 1) → flagIn f i ≡ 0
-    go (yes q) = ap (flagIn f) q ∙ e
-    go (no q) = N i (omega arith) h

@@ -1,20 +1,20 @@
 -- What the code tells of a cut of a row, and of storing it.
-use mathlib.Core.Path.{_≡_, refl, sym, ap, _∙_}
+use mathlib.Core.Path.{_≡_, refl, sym, ap, subst, _∙_}
 use mathlib.Core.Bool.{Bool, true, false}
 use mathlib.Core.List.{List}
-use Prim.Native.Nat.{ℕ, _<_}
+use Prim.Native.Nat.{ℕ, _+_, _<_}
 use native.Mathlib.Omega.{arith}
-use lib.ListN.{length}
 use lib.IntN.{ℤ}
 use mir.Syntax.{w64}
 use mir.Val.{SFits, ofZ, toZ}
 use mir.ValLaws.{toZ-ofZ}
 use Rattle.integers.specs.declared.Range.{Range}
-use Rattle.refinement.specs.Flags.{flagged}
 use Rattle.sheet_bytes.specs.declared.Ranges.{Ranges}
 use Rattle.sheet_bytes.specs.declared.Rules.{Rules}
 use Rattle.sheet_bytes.specs.Cuts.{cutsThree}
-use Rattle.tables.specs.Arrays.{rangesIn, targetIn, flagIn, putRanges}
+use Rattle.tables.specs.Arrays.{rangesIn, sourceIn, putRanges}
+use Rattle.tables.specs.Marks.{RaisedTo}
+use Rattle.tables.specs.Sources.{LoweredAt, Noting, Opening, opening}
 
 -- an answer whether two things are the same
 pub record Same {A : Type 0} (x y : A) (r : Bool) : Type 0 where
@@ -77,11 +77,18 @@ module _ (rules : Rules) (c : List ℤ) (i j : ℕ) (old wanted q : Ranges) (e :
         changed = λ z. (p ∙ ap (putRanges c i) cut-is, λ k. S .no t (cut-is ∙ k ∙ sym e));
       }
 
--- Row i was cut by row j, with all flags raised that must be, or it was as it should be.
-pub data Settled (rules : Rules) (actions : ℕ) (c : List ℤ) (t f : List ℕ) (n i j : ℕ) (c′ : List ℤ) (f′ : List ℕ) : Type 0 where
-  settled-same : cutTo rules c i j ≡ rangesIn c i → c′ ≡ c → f′ ≡ f → Settled rules actions c t f n i j c′ f′
-  settled-cut : (cutTo rules c i j ≡ rangesIn c i → ⊥) → c′ ≡ putRanges c i (cutTo rules c i j) → length f′ ≡ length f
-      → ((k : ℕ) → k < n → flagIn f′ k ≡ flagged (targetIn t) actions i (flagIn f) k) → Settled rules actions c t f n i j c′ f′
+-- Row i, now a source of row j, was cut by row j, with all flags raised that must be, or it was as it should be.
+pub data Settled (rules : Rules) (actions : ℕ) (c : List ℤ) (t f d : List ℕ) (n i j : ℕ) (c′ : List ℤ) (f′ d′ : List ℕ) : Type 0 where
+  settled-same : cutTo rules c i j ≡ rangesIn c i → c′ ≡ c → f′ ≡ f → Noting d d′ i j → Settled rules actions c t f d n i j c′ f′ d′
+  settled-cut : (cutTo rules c i j ≡ rangesIn c i → ⊥) → c′ ≡ putRanges c i (cutTo rules c i j) → Opening d d′ i j → RaisedTo t i (sourceIn d′ i) n f f′ actions
+      → Settled rules actions c t f d n i j c′ f′ d′
+
+pub settled-raised : {rules : Rules} {actions : ℕ} {c c′ : List ℤ} {t f f′ d d₁ d₂ d′ : List ℕ} {n i j from : ℕ} → i < 255 → j < 255 → (cutTo rules c i j ≡ rangesIn c i → ⊥)
+    → c′ ≡ putRanges c i (cutTo rules c i j) → LoweredAt d d₁ (255 + j) i → from ≡ sourceIn d₁ i → LoweredAt d₁ d₂ 510 from → LoweredAt d₂ d′ 511 from → RaisedTo t i from n f f′ actions
+    → Settled rules actions c t f d n i j c′ f′ d′
+settled-raised {actions = actions} {t = t} {f = f} {f′ = f′} {n = n} {i = i} hi hj ne ec L e A B U =
+    let (O, q) = opening hi hj L e A B in
+    settled-cut ne ec O (subst (λ (k : ℕ). RaisedTo t i k n f f′ actions) (sym q) U)
 
 -- signed numbers of the same bits are the same
 pub bits-same : (x y : ℤ) → SFits w64 x → SFits w64 y → ofZ w64 x ≡ ofZ w64 y → x ≡ y

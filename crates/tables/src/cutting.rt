@@ -3,11 +3,12 @@ ghost use mathlib.Core.Path.{_≡_};
 ghost use Prim.Native.Nat.{_+_, _*_, _<_, _≤_};
 ghost use lib.ListN.{set};
 ghost use Rattle.sheet_bytes.specs.Bounds.{RangesWithin, RulesFit};
-ghost use Rattle.tables.specs.Arrays.{CellsRoom, TargetsRoom, FlagsRoom, rangesIn};
+ghost use Rattle.tables.specs.Arrays.{CellsRoom, TargetsRoom, FlagsRoom, DepthsRoom, rangesIn};
 ghost use Rattle.tables.specs.Cutting.{Same, CutRow, Settled};
 use crate::marks::raise;
 use crate::rows::put_ranges;
 use crate::rows::ranges_in;
+use crate::sources::lower;
 use integers::Range;
 use sheet_bytes::Ranges;
 use sheet_bytes::Rules;
@@ -55,11 +56,13 @@ pub fn cut_row(cells: &mut [i64], i: usize, j: usize, rules: Rules) -> bool
     true
 }
 
-// Stores j as the target of row i and action a, cuts row i by row j, and if that changed it raises the flags of all rows with a target i.
+// Stores j as the target of row i and action a and lowers its flag, cuts row i by row j, and if that changed it raises the flags of all actions with the
+// target i: none of a row below the lowest source of i.
 pub fn settle(
     cells: &mut [i64],
     targets: &mut [u8],
     flags: &mut [u8],
+    depths: &mut [usize],
     actions: usize,
     n: usize,
     i: usize,
@@ -70,15 +73,23 @@ pub fn settle(
     requires { ⌜ CellsRoom (now cells) ⌝ }
     requires { ⌜ TargetsRoom (now targets) ⌝ }
     requires { ⌜ FlagsRoom (now flags) ⌝ }
+    requires { ⌜ DepthsRoom (now depths) ⌝ }
     requires { ⌜ (actions ≤ 8) × (n ≤ 255) × (i < n) × (a < actions) × (j < n) ⌝ }
     requires { ⌜ RulesFit rules ⌝ }
     requires { ⌜ RangesWithin 1000000 (rangesIn (now cells) j) ⌝ }
     ensures { λ _. ⌜ now (targets .exit) ≡ set (now (targets .entry)) (255 * a + i) j ⌝ }
-    ensures { λ _. ⌜ Settled rules actions (now (cells .entry)) (now (targets .exit)) (now (flags .entry)) n i j (now (cells .exit)) (now (flags .exit)) ⌝ }
+    ensures { λ _. ⌜ Settled rules actions (now (cells .entry)) (now (targets .exit)) (set (now (flags .entry)) (255 * a + i) 0) (now (depths .entry)) n i j (now (cells .exit)) (now (flags .exit)) (now (depths .exit)) ⌝ }
 {
     targets[255 * a + i] = j as u8;
+    flags[255 * a + i] = 0;
+    lower(depths, 255 + j, i);
     if !cut_row(cells, i, j, rules) {
         return;
     }
-    raise(targets, flags, actions, i as u8, n);
+    let from = depths[255 + i];
+    lower(depths, 510, from);
+    lower(depths, 511, from);
+    if from < n {
+        raise(targets, flags, actions, i as u8, from, n);
+    }
 }

@@ -1,149 +1,138 @@
 use native.Mathlib.Omega.{arith}
 use Prim.Native.Nat.{_-_, _≤_}
-use mathlib.Core.Path.{sym, _∙_}
-use Rattle.minimize.specs.State.{state-begin}
-use Rattle.minimize.specs.Steps.{Going, Followed, going-stay, then-going, then-followed, turned, turned-many}
+use mathlib.Core.Path.{refl, sym, _∙_}
+use Rattle.minimize.specs.State.{actions-few}
+use Rattle.minimize.specs.Steps.{Turning, turning-begin, turning-same, turned, turned-new}
 use Rattle.minimize.proofs.steps.turn.Statement.{statement}
 use Rattle.minimize.proofs.steps.turn.Tie as tie
+use Rattle.minimize.proofs.steps.step.Reads as step-reads
+use Rattle.tables.proofs.depths.deepen.Reads as deepen-reads
 
 abbrev Inv-loop : tie.InvT-loop
-Inv-loop s shape cells₀ homes₀ targets₀ flags₀ n i rows₀ a₀ a-end cells homes targets flags rows a =
-    (a ≤ a-end) × (rows ≤ 255) × Going s shape cells₀ homes₀ flags₀ n cells homes targets flags i a rows × Followed s shape cells₀ homes₀ n cells homes i a rows
+Inv-loop s shape cells₀ homes₀ targets₀ flags₀ depths₀ n i a₀ a-end cells homes targets flags depths a = (a ≤ a-end) × Turning s shape cells₀ homes₀ targets₀ flags₀ depths₀ n cells homes targets flags depths i a n
 
 abbrev μ-loop : tie.MeasureT-loop
-μ-loop s shape cells₀ homes₀ targets₀ flags₀ n i rows₀ a₀ a-end cells homes targets flags rows a = a-end - a
-
-slice-write-flags : tie.Need-slice-write-flags Inv-loop μ-loop
-slice-write-flags c =
-    let start = c .before .before .before .before in
-    let R = start .pre .0 in
-    let S = start .pre .1 .0 in
-    let (hi, up) = start .pre .1 .1 in
-    let few = S .working .few in
-    omega (arith, S .flags-room)
+μ-loop s shape cells₀ homes₀ targets₀ flags₀ depths₀ n i a₀ a-end cells homes targets flags depths a = a-end - a
 
 loop-holds : tie.Need-loop-holds Inv-loop μ-loop
-loop-holds c =
-    let start = c .before .before .before .before in
-    let R = start .pre .0 in
-    let S = start .pre .1 .0 in
-    let (hi, up) = start .pre .1 .1 in
-    (omega arith, S .working .few, going-stay (state-begin R S (start .args .i)), λ e b g. absurd (omega arith))
+loop-holds c = (omega arith, turning-begin (c .before .before .before .before .before .pre .1 .0))
 
 step-requires : tie.Need-step-requires Inv-loop μ-loop
 step-requires c κs =
-    let start = c .before .before .before .before .before .before .before .before .before .before in
+    let start = c .before .before .before .before .before .before .before .before .before .before .before .before in
     let R = start .pre .0 in
     let S = start .pre .1 .0 in
-    let (hi, up) = start .pre .1 .1 in
-    let (x, y, G, F) = c .before .before .before .before .before .loop .inv in
-    (R, (G .state, (omega (arith, G .more), c .before .before .before .before .loop-test .taken)))
+    let hi = start .pre .1 .1 in
+    let (x, T) = c .before .before .before .before .before .before .loop .inv in
+    (R, (T .state, (hi, c .before .before .before .before .before .loop-test .taken)))
 
 same-length : tie.Need-same-length Inv-loop μ-loop
 same-length c =
-    let start = c .before .before .before .before .before .before .before .before .before .before .before .before .before .before .before .before .before .before .before in
-    let R = start .pre .0 in
-    let S = start .pre .1 .0 in
-    let (hi, up) = start .pre .1 .1 in
-    let (x, y, G, F) = c .before .before .before .before .before .before .before .before .before .before .before .before .before .before .loop .inv in
-    c .before .before .before .before .before .before .before .cells .given ∙ G .state .cells-room ∙ sym (S .cells-room)
+    let S = c .before .before .before .before .before .before .before .before .before .before .before .before .before .before .before .before .before .before .before .before .before .before .before .pre .1 .0 in
+    let (x, T) = c .before .before .before .before .before .before .before .before .before .before .before .before .before .before .before .before .before .loop .inv in
+    c .before .before .before .before .before .before .before .before .before .cells .given ∙ T .state .cells-room ∙ sym (S .cells-room)
 
 same-length-2 : tie.Need-same-length-2 Inv-loop μ-loop
 same-length-2 c =
-    let start = c .before .before .before .before .before .before .before .before .before .before .before .before .before .before .before .before .before .before .before in
-    let R = start .pre .0 in
-    let S = start .pre .1 .0 in
-    let (hi, up) = start .pre .1 .1 in
-    let (x, y, G, F) = c .before .before .before .before .before .before .before .before .before .before .before .before .before .before .loop .inv in
-    c .before .before .before .before .before .before .homes .given ∙ G .state .homes-room ∙ sym (S .homes-room)
+    let S = c .before .before .before .before .before .before .before .before .before .before .before .before .before .before .before .before .before .before .before .before .before .before .before .pre .1 .0 in
+    let (x, T) = c .before .before .before .before .before .before .before .before .before .before .before .before .before .before .before .before .before .loop .inv in
+    c .before .before .before .before .before .before .before .before .homes .given ∙ T .state .homes-room ∙ sym (S .homes-room)
 
 same-length-3 : tie.Need-same-length-3 Inv-loop μ-loop
 same-length-3 c =
-    let start = c .before .before .before .before .before .before .before .before .before .before .before .before .before .before .before .before .before .before .before in
-    let R = start .pre .0 in
-    let S = start .pre .1 .0 in
-    let (hi, up) = start .pre .1 .1 in
-    let (x, y, G, F) = c .before .before .before .before .before .before .before .before .before .before .before .before .before .before .loop .inv in
-    c .before .before .before .before .targets .given ∙ G .state .targets-room ∙ sym (S .targets-room)
+    let S = c .before .before .before .before .before .before .before .before .before .before .before .before .before .before .before .before .before .before .before .before .before .before .before .pre .1 .0 in
+    let (x, T) = c .before .before .before .before .before .before .before .before .before .before .before .before .before .before .before .before .before .loop .inv in
+    c .before .before .before .before .before .before .targets .given ∙ T .state .targets-room ∙ sym (S .targets-room)
 
 same-length-4 : tie.Need-same-length-4 Inv-loop μ-loop
 same-length-4 c =
-    let start = c .before .before .before .before .before .before .before .before .before .before .before .before .before .before .before .before .before .before .before in
-    let R = start .pre .0 in
-    let S = start .pre .1 .0 in
-    let (hi, up) = start .pre .1 .1 in
-    let (x, y, G, F) = c .before .before .before .before .before .before .before .before .before .before .before .before .before .before .loop .inv in
-    c .before .before .flags .given ∙ G .state .flags-room ∙ sym (S .flags-room)
-
-returns : tie.Need-returns Inv-loop μ-loop
-returns c =
-    let e = c .before .before .before .before .before .before .before .before .step .ensures in
-    let S = c .before .before .before .before .before .before .before .before .before .before .before .before .before .before .before .before .before .before .before .pre .1 .0 in
-    turned-many (S .working .few) (c .if1 .taken) (e .many (c .if1 .taken))
-
-add-a : tie.Need-add-a Inv-loop μ-loop
-add-a c = omega (arith, c .before .before .before .before .before .before .before .before .before .before .before .before .before .loop-test .taken)
-
-loop-less : tie.Need-loop-less Inv-loop μ-loop
-loop-less c = omega (arith, c .before .before .before .before .before .before .before .before .before .before .before .before .before .loop-test .taken)
-
-loop-again : tie.Need-loop-again Inv-loop μ-loop
-loop-again c =
-    let start = c .before .before .before .before .before .before .before .before .before .before .before .before .before .before .before .before .before .before .before in
-    let R = start .pre .0 in
-    let (hi, up) = start .pre .1 .1 in
-    let (x, y, G, F) = c .before .before .before .before .before .before .before .before .before .before .before .before .before .before .loop .inv in
-    let e = c .before .before .before .before .before .before .before .before .step .ensures in (
-      omega (arith, c .before .before .before .before .before .before .before .before .before .before .before .before .before .loop-test .taken),
-      c .if1 .left,
-      then-going R G e (c .if1 .left),
-      then-followed R hi G F e (c .if1 .left),
-    )
+    let S = c .before .before .before .before .before .before .before .before .before .before .before .before .before .before .before .before .before .before .before .before .before .before .before .pre .1 .0 in
+    let (x, T) = c .before .before .before .before .before .before .before .before .before .before .before .before .before .before .before .before .before .loop .inv in
+    c .before .before .before .before .flags .given ∙ T .state .flags-room ∙ sym (S .flags-room)
 
 same-length-5 : tie.Need-same-length-5 Inv-loop μ-loop
 same-length-5 c =
-    let start = c .before .before .before .before .before .before in
+    let S = c .before .before .before .before .before .before .before .before .before .before .before .before .before .before .before .before .before .before .before .before .before .before .before .pre .1 .0 in
+    let (x, T) = c .before .before .before .before .before .before .before .before .before .before .before .before .before .before .before .before .before .loop .inv in
+    c .before .before .depths .given ∙ T .state .depths-room ∙ sym (S .depths-room)
+
+returns : tie.Need-returns Inv-loop μ-loop
+returns c =
+    let start = c .before .before .before .before .before .before .before .before .before .before .before .before .before .before .before .before .before .before .before .before .before .before .before in
     let R = start .pre .0 in
     let S = start .pre .1 .0 in
-    let (hi, up) = start .pre .1 .1 in
-    let (x, y, G, F) = c .before .loop .inv in
-    G .state .cells-room ∙ sym (S .cells-room)
+    let hi = start .pre .1 .1 in
+    let (x, T) = c .before .before .before .before .before .before .before .before .before .before .before .before .before .before .before .before .before .loop .inv in
+    turned-new T (c .before .before .before .before .before .before .before .before .before .before .step .ensures) (c .if1 .taken)
+
+add-a : tie.Need-add-a Inv-loop μ-loop
+add-a c = omega (arith, c .before .before .before .before .before .before .before .before .before .before .before .before .before .before .before .before .loop-test .taken)
+
+loop-less : tie.Need-loop-less Inv-loop μ-loop
+loop-less c = omega (arith, c .before .before .before .before .before .before .before .before .before .before .before .before .before .before .before .before .loop-test .taken)
+
+loop-again : tie.Need-loop-again Inv-loop μ-loop
+loop-again c =
+    let start = c .before .before .before .before .before .before .before .before .before .before .before .before .before .before .before .before .before .before .before .before .before .before .before in
+    let R = start .pre .0 in
+    let S = start .pre .1 .0 in
+    let hi = start .pre .1 .1 in
+    let (x, T) = c .before .before .before .before .before .before .before .before .before .before .before .before .before .before .before .before .before .loop .inv in
+    let O = c .before .before .before .before .before .before .before .before .before .before .step .ensures in
+    let few = S .working .few in
+    let l = c .if1 .left in
+    let w = c .before .before .before .before .before .before .before .before .before .before .before .before .before .before .before .before .loop-test .taken in
+    (omega (arith, w), turning-same hi w (actions-few R) T O few l)
+
+deepen-requires : tie.Need-deepen-requires Inv-loop μ-loop
+deepen-requires c κs =
+    let start = c .before .before .before .before .before .before .before .before .before in
+    let R = start .pre .0 in
+    let S = start .pre .1 .0 in
+    let hi = start .pre .1 .1 in
+    let (x, T) = c .before .before .before .loop .inv in
+    let Q = T .state in
+    let few = Q .working .few in
+    (Q .targets-room, (Q .depths-room, (actions-few R, omega arith)))
 
 same-length-6 : tie.Need-same-length-6 Inv-loop μ-loop
 same-length-6 c =
-    let start = c .before .before .before .before .before .before in
-    let R = start .pre .0 in
-    let S = start .pre .1 .0 in
-    let (hi, up) = start .pre .1 .1 in
-    let (x, y, G, F) = c .before .loop .inv in
-    G .state .homes-room ∙ sym (S .homes-room)
+    let S = c .before .before .before .before .before .before .before .before .before .before .before .before .pre .1 .0 in
+    let (x, T) = c .before .before .before .before .before .before .loop .inv in
+    T .state .cells-room ∙ sym (S .cells-room)
 
 same-length-7 : tie.Need-same-length-7 Inv-loop μ-loop
 same-length-7 c =
-    let start = c .before .before .before .before .before .before in
-    let R = start .pre .0 in
-    let S = start .pre .1 .0 in
-    let (hi, up) = start .pre .1 .1 in
-    let (x, y, G, F) = c .before .loop .inv in
-    G .state .targets-room ∙ sym (S .targets-room)
+    let S = c .before .before .before .before .before .before .before .before .before .before .before .before .pre .1 .0 in
+    let (x, T) = c .before .before .before .before .before .before .loop .inv in
+    T .state .homes-room ∙ sym (S .homes-room)
 
 same-length-8 : tie.Need-same-length-8 Inv-loop μ-loop
 same-length-8 c =
-    let start = c .before .before .before .before .before .before in
-    let R = start .pre .0 in
-    let S = start .pre .1 .0 in
-    let (hi, up) = start .pre .1 .1 in
-    let (x, y, G, F) = c .before .loop .inv in
-    G .state .flags-room ∙ sym (S .flags-room)
+    let S = c .before .before .before .before .before .before .before .before .before .before .before .before .pre .1 .0 in
+    let (x, T) = c .before .before .before .before .before .before .loop .inv in
+    T .state .targets-room ∙ sym (S .targets-room)
+
+same-length-9 : tie.Need-same-length-9 Inv-loop μ-loop
+same-length-9 c =
+    let S = c .before .before .before .before .before .before .before .before .before .before .before .before .pre .1 .0 in
+    let (x, T) = c .before .before .before .before .before .before .loop .inv in
+    T .state .flags-room ∙ sym (S .flags-room)
+
+same-length-10 : tie.Need-same-length-10 Inv-loop μ-loop
+same-length-10 c =
+    let S = c .before .before .before .before .before .before .before .before .before .before .before .before .pre .1 .0 in
+    let (x, T) = c .before .before .before .before .before .before .loop .inv in
+    c .before .depths2 .given ∙ T .state .depths-room ∙ sym (S .depths-room)
 
 returns-2 : tie.Need-returns-2 Inv-loop μ-loop
 returns-2 c =
-    let start = c .before .before .before .before .before .before in
+    let start = c .before .before .before .before .before .before .before .before .before .before .before .before in
     let R = start .pre .0 in
     let S = start .pre .1 .0 in
-    let (hi, up) = start .pre .1 .1 in
-    let (x, y, G, F) = c .before .loop .inv in
-    turned R S hi up G F (omega arith)
+    let hi = start .pre .1 .1 in
+    let (x, T) = c .before .before .before .before .before .before .loop .inv in
+    turned R T (omega arith) (c .before .before .deepen .last .1 .0) S hi refl (c .before .depths2 .given) (c .before .before .deepen .ensures)
 
 pub turn-spec : {M : Type 1} → statement M
 turn-spec =
@@ -151,19 +140,21 @@ turn-spec =
     (tie.spec
     Inv-loop
     μ-loop
-    slice-write-flags
     loop-holds
     step-requires
     same-length
     same-length-2
     same-length-3
     same-length-4
+    same-length-5
     returns
     add-a
     loop-less
     loop-again
-    same-length-5
+    deepen-requires
     same-length-6
     same-length-7
     same-length-8
+    same-length-9
+    same-length-10
     returns-2)

@@ -1,171 +1,185 @@
 use native.Mathlib.Omega.{arith}
 use Prim.Native.Nat.{_+_, _-_, _≤_}
 use mathlib.Core.Path.{sym, _∙_}
+use lib.ListN.{length-set}
+use Rattle.tables.specs.Arrays.{freshIn}
+use Rattle.minimize.specs.State.{actions-few}
 use Rattle.minimize.specs.Passes.{Passing, pass-begin, pass-down, pass-turned, swept-new, swept}
 use Rattle.minimize.proofs.table.sweep.Statement.{statement}
 use Rattle.minimize.proofs.table.sweep.Tie as tie
+use Rattle.minimize.proofs.steps.turn.Reads as turn-reads
+use Rattle.tables.proofs.marks.any_raised.Reads as any-raised-reads
 
 abbrev Inv-loop : tie.InvT-loop
-Inv-loop s shape cells₀ homes₀ targets₀ flags₀ n last k₀ cells homes targets flags k =
-    (k ≤ last + 1) × Passing s shape cells₀ homes₀ flags₀ n last cells homes targets flags k
+Inv-loop s shape cells₀ homes₀ targets₀ flags₀ depths₀ n last k₀ cells homes targets flags depths k = (k ≤ last + 1) × Passing s shape cells₀ homes₀ flags₀ n cells homes targets flags depths k
 
 abbrev μ-loop : tie.MeasureT-loop
-μ-loop s shape cells₀ homes₀ targets₀ flags₀ n last k₀ cells homes targets flags k = k
+μ-loop s shape cells₀ homes₀ targets₀ flags₀ depths₀ n last k₀ cells homes targets flags depths k = k
+
+slice-write-depths : tie.Need-slice-write-depths Inv-loop μ-loop
+slice-write-depths c =
+    let start = c .before .before .before .before .before in
+    let R = start .pre .0 in
+    let S = start .pre .1 .0 in
+    let (hl, down) = start .pre .1 .1 in
+    omega (arith, S .depths-room)
 
 add-k : tie.Need-add-k Inv-loop μ-loop
 add-k c =
-    let start = c .before .before .before .before in
+    let start = c .before .before .before .before .before in
     let R = start .pre .0 in
     let S = start .pre .1 .0 in
-    let (hl, up, down) = start .pre .1 .1 in
+    let (hl, down) = start .pre .1 .1 in
     omega (arith, S .working .few)
 
 loop-holds : tie.Need-loop-holds Inv-loop μ-loop
 loop-holds c =
-    let start = c .before .before .before .before in
+    let start = c .before .before .before .before .before in
     let R = start .pre .0 in
     let S = start .pre .1 .0 in
-    let (hl, up, down) = start .pre .1 .1 in
-    (omega arith, pass-begin R S up down)
-
-sub-k : tie.Need-sub-k Inv-loop μ-loop
-sub-k c = omega arith
+    let (hl, down) = start .pre .1 .1 in
+    (omega arith, pass-begin R S down)
 
 slice-read-if1 : tie.Need-slice-read-if1 Inv-loop μ-loop
-slice-read-if1 c =
-    let start = c .before .before .before .before .before .before .before in
+slice-read-if1 c = let (hk, P) = c .before .loop .inv in omega (arith, P .state .depths-room)
+
+sub-k : tie.Need-sub-k Inv-loop μ-loop
+sub-k c = let t = c .if1 .taken in omega (arith, t)
+
+any-raised-requires : tie.Need-any-raised-requires Inv-loop μ-loop
+any-raised-requires c κs =
+    let start = c .before .before .before .before .before .before .before .before .before in
     let R = start .pre .0 in
     let S = start .pre .1 .0 in
-    let (hl, up, down) = start .pre .1 .1 in
-    let (hk, P) = c .before .before .loop .inv in
-    omega (arith, P .state .flags-room, S .working .few)
+    let (hl, down) = start .pre .1 .1 in
+    let l = c .before .before .before .loop in
+    let (hk, P) = l .inv in
+    let t = c .before .if1 .taken in
+    (P .state .flags-room, (actions-few R, omega (arith, S .working .few, hl, t, hk)))
 
 turn-requires : tie.Need-turn-requires Inv-loop μ-loop
 turn-requires c κs =
-    let start = c .before .before .before .before .before .before .before .before .before .before .before .before in
+    let start = c .before .before .before .before .before .before .before .before .before .before .before .before .before .before .before .before in
     let R = start .pre .0 in
     let S = start .pre .1 .0 in
-    let (hl, up, down) = start .pre .1 .1 in
-    let (hk, P) = c .before .before .before .before .before .before .before .loop .inv in
-    (R, (P .state, (omega arith, c .before .before .before .before .if1 .taken)))
+    let (hl, down) = start .pre .1 .1 in
+    let l = c .before .before .before .before .before .before .before .before .before .before .loop in
+    let (hk, P) = l .inv in
+    let t = c .before .before .before .before .before .before .before .before .if1 .taken in
+    (R, (P .state, omega (arith, t, hl, hk)))
 
 same-length : tie.Need-same-length Inv-loop μ-loop
 same-length c =
-    let start = c .before .before .before .before .before .before .before .before .before .before .before .before .before .before .before .before .before .before .before .before .before in
-    let R = start .pre .0 in
-    let S = start .pre .1 .0 in
-    let (hl, up, down) = start .pre .1 .1 in
-    let (hk, P) = c .before .before .before .before .before .before .before .before .before .before .before .before .before .before .before .before .loop .inv in
-    c .before .before .before .before .before .before .before .cells .given ∙ P .state .cells-room ∙ sym (S .cells-room)
+    let S = c .before .before .before .before .before .before .before .before .before .before .before .before .before .before .before .before .before .before .before .before .before .before .before .before .before .before .before .pre .1 .0 in
+    let (hk, P) = c .before .before .before .before .before .before .before .before .before .before .before .before .before .before .before .before .before .before .before .before .before .loop .inv in
+    c .before .before .before .before .before .before .before .before .before .cells .given ∙ P .state .cells-room ∙ sym (S .cells-room)
 
 same-length-2 : tie.Need-same-length-2 Inv-loop μ-loop
 same-length-2 c =
-    let start = c .before .before .before .before .before .before .before .before .before .before .before .before .before .before .before .before .before .before .before .before .before in
-    let R = start .pre .0 in
-    let S = start .pre .1 .0 in
-    let (hl, up, down) = start .pre .1 .1 in
-    let (hk, P) = c .before .before .before .before .before .before .before .before .before .before .before .before .before .before .before .before .loop .inv in
-    c .before .before .before .before .before .before .homes .given ∙ P .state .homes-room ∙ sym (S .homes-room)
+    let S = c .before .before .before .before .before .before .before .before .before .before .before .before .before .before .before .before .before .before .before .before .before .before .before .before .before .before .before .pre .1 .0 in
+    let (hk, P) = c .before .before .before .before .before .before .before .before .before .before .before .before .before .before .before .before .before .before .before .before .before .loop .inv in
+    c .before .before .before .before .before .before .before .before .homes .given ∙ P .state .homes-room ∙ sym (S .homes-room)
 
 same-length-3 : tie.Need-same-length-3 Inv-loop μ-loop
 same-length-3 c =
-    let start = c .before .before .before .before .before .before .before .before .before .before .before .before .before .before .before .before .before .before .before .before .before in
-    let R = start .pre .0 in
-    let S = start .pre .1 .0 in
-    let (hl, up, down) = start .pre .1 .1 in
-    let (hk, P) = c .before .before .before .before .before .before .before .before .before .before .before .before .before .before .before .before .loop .inv in
-    c .before .before .before .before .targets .given ∙ P .state .targets-room ∙ sym (S .targets-room)
+    let S = c .before .before .before .before .before .before .before .before .before .before .before .before .before .before .before .before .before .before .before .before .before .before .before .before .before .before .before .pre .1 .0 in
+    let (hk, P) = c .before .before .before .before .before .before .before .before .before .before .before .before .before .before .before .before .before .before .before .before .before .loop .inv in
+    c .before .before .before .before .before .before .targets .given ∙ P .state .targets-room ∙ sym (S .targets-room)
 
 same-length-4 : tie.Need-same-length-4 Inv-loop μ-loop
 same-length-4 c =
-    let start = c .before .before .before .before .before .before .before .before .before .before .before .before .before .before .before .before .before .before .before .before .before in
-    let R = start .pre .0 in
-    let S = start .pre .1 .0 in
-    let (hl, up, down) = start .pre .1 .1 in
-    let (hk, P) = c .before .before .before .before .before .before .before .before .before .before .before .before .before .before .before .before .loop .inv in
-    c .before .before .flags .given ∙ P .state .flags-room ∙ sym (S .flags-room)
-
-returns : tie.Need-returns Inv-loop μ-loop
-returns c =
-    let start = c .before .before .before .before .before .before .before .before .before .before .before .before .before .before .before .before .before .before .before .before .before in
-    let R = start .pre .0 in
-    let S = start .pre .1 .0 in
-    let (hl, up, down) = start .pre .1 .1 in
-    let l = c .before .before .before .before .before .before .before .before .before .before .before .before .before .before .before .before .loop in
-    let (hk, P) = l .inv in
-    swept-new R (l .k - 1) P (omega (arith, c .before .before .before .before .before .before .before .before .before .before .before .before .before .before .before .loop-test .taken)) hk hl (c .before .before .before .before .before .before .before .before .turn .ensures) (c .if2 .taken)
-
-loop-less : tie.Need-loop-less Inv-loop μ-loop
-loop-less c = let t = c .before .before .before .before .before .before .before .before .before .before .before .before .before .before .before .loop-test .taken in omega arith
-
-loop-again : tie.Need-loop-again Inv-loop μ-loop
-loop-again c =
-    let start = c .before .before .before .before .before .before .before .before .before .before .before .before .before .before .before .before .before .before .before .before .before in
-    let R = start .pre .0 in
-    let S = start .pre .1 .0 in
-    let (hl, up, down) = start .pre .1 .1 in
-    let l = c .before .before .before .before .before .before .before .before .before .before .before .before .before .before .before .before .loop in
-    let (hk, P) = l .inv in
-    (omega arith, pass-turned R (l .k - 1) P (omega (arith, c .before .before .before .before .before .before .before .before .before .before .before .before .before .before .before .loop-test .taken)) hk hl (c .before .before .before .before .before .before .before .before .turn .ensures) (c .if2 .left))
-
-loop-less-2 : tie.Need-loop-less-2 Inv-loop μ-loop
-loop-less-2 c = let t = c .before .before .loop-test .taken in omega arith
-
-loop-again-2 : tie.Need-loop-again-2 Inv-loop μ-loop
-loop-again-2 c =
-    let start = c .before .before .before .before .before .before .before .before in
-    let R = start .pre .0 in
-    let S = start .pre .1 .0 in
-    let (hl, up, down) = start .pre .1 .1 in
-    let l = c .before .before .before .loop in
-    let (hk, P) = l .inv in
-    let e = c .if1 .left in
-    (omega arith, pass-down R (l .k - 1) P (omega (arith, c .before .before .loop-test .taken)) hk hl (omega arith))
+    let S = c .before .before .before .before .before .before .before .before .before .before .before .before .before .before .before .before .before .before .before .before .before .before .before .before .before .before .before .pre .1 .0 in
+    let (hk, P) = c .before .before .before .before .before .before .before .before .before .before .before .before .before .before .before .before .before .before .before .before .before .loop .inv in
+    c .before .before .before .before .flags .given ∙ P .state .flags-room ∙ sym (S .flags-room)
 
 same-length-5 : tie.Need-same-length-5 Inv-loop μ-loop
 same-length-5 c =
-    let start = c .before .before .before .before .before .before in
+    let S = c .before .before .before .before .before .before .before .before .before .before .before .before .before .before .before .before .before .before .before .before .before .before .before .before .before .before .before .pre .1 .0 in
+    let (hk, P) = c .before .before .before .before .before .before .before .before .before .before .before .before .before .before .before .before .before .before .before .before .before .loop .inv in
+    c .before .before .depths .given ∙ P .state .depths-room ∙ sym (S .depths-room)
+
+returns : tie.Need-returns Inv-loop μ-loop
+returns c =
+    let start = c .before .before .before .before .before .before .before .before .before .before .before .before .before .before .before .before .before .before .before .before .before .before .before .before .before .before .before in
     let R = start .pre .0 in
     let S = start .pre .1 .0 in
-    let (hl, up, down) = start .pre .1 .1 in
-    let (hk, P) = c .before .loop .inv in
-    P .state .cells-room ∙ sym (S .cells-room)
+    let (hl, down) = start .pre .1 .1 in
+    let l = c .before .before .before .before .before .before .before .before .before .before .before .before .before .before .before .before .before .before .before .before .before .loop in
+    let (hk, P) = l .inv in
+    let t = c .before .before .before .before .before .before .before .before .before .before .before .before .before .before .before .before .before .before .before .if1 .taken in
+    swept-new R (l .k - 1) P (omega (arith, t)) (omega (arith, t, hl, hk)) (c .before .before .before .before .before .before .before .before .before .before .turn .ensures) (c .if3 .taken)
+
+loop-less : tie.Need-loop-less Inv-loop μ-loop
+loop-less c = let t = c .before .before .before .before .before .before .before .before .before .before .before .before .before .before .before .before .before .before .before .if1 .taken in omega (arith, t)
+
+loop-again : tie.Need-loop-again Inv-loop μ-loop
+loop-again c =
+    let start = c .before .before .before .before .before .before .before .before .before .before .before .before .before .before .before .before .before .before .before .before .before .before .before .before .before .before .before in
+    let R = start .pre .0 in
+    let S = start .pre .1 .0 in
+    let (hl, down) = start .pre .1 .1 in
+    let l = c .before .before .before .before .before .before .before .before .before .before .before .before .before .before .before .before .before .before .before .before .before .loop in
+    let (hk, P) = l .inv in
+    let t = c .before .before .before .before .before .before .before .before .before .before .before .before .before .before .before .before .before .before .before .if1 .taken in
+    (omega (arith, t, hk), pass-turned R (l .k - 1) P (omega (arith, t)) (omega (arith, t, hl, hk)) (c .before .before .before .before .before .before .before .before .before .before .turn .ensures) (c .if3 .left))
+
+loop-less-2 : tie.Need-loop-less-2 Inv-loop μ-loop
+loop-less-2 c = let t = c .before .before .before .if1 .taken in omega (arith, t)
+
+loop-again-2 : tie.Need-loop-again-2 Inv-loop μ-loop
+loop-again-2 c =
+    let start = c .before .before .before .before .before .before .before .before .before .before .before in
+    let R = start .pre .0 in
+    let S = start .pre .1 .0 in
+    let (hl, down) = start .pre .1 .1 in
+    let l = c .before .before .before .before .before .loop in
+    let (hk, P) = l .inv in
+    let t = c .before .before .before .if1 .taken in
+    (omega (arith, t, hk), pass-down R (l .k - 1) P (omega (arith, t)) (omega (arith, t, hl, hk)) (c .before .any-raised .ensures .down (c .if2 .left)))
+
+slice-read-depths : tie.Need-slice-read-depths Inv-loop μ-loop
+slice-read-depths c = let (hk, P) = c .before .before .before .loop .inv in omega (arith, P .state .depths-room)
+
+slice-write-depths-2 : tie.Need-slice-write-depths-2 Inv-loop μ-loop
+slice-write-depths-2 c = let (hk, P) = c .before .before .before .loop .inv in omega (arith, P .state .depths-room)
 
 same-length-6 : tie.Need-same-length-6 Inv-loop μ-loop
 same-length-6 c =
-    let start = c .before .before .before .before .before .before in
-    let R = start .pre .0 in
-    let S = start .pre .1 .0 in
-    let (hl, up, down) = start .pre .1 .1 in
-    let (hk, P) = c .before .loop .inv in
-    P .state .homes-room ∙ sym (S .homes-room)
+    let S = c .before .before .before .before .before .before .before .before .before .pre .1 .0 in
+    let (hk, P) = c .before .before .before .loop .inv in
+    P .state .cells-room ∙ sym (S .cells-room)
 
 same-length-7 : tie.Need-same-length-7 Inv-loop μ-loop
 same-length-7 c =
-    let start = c .before .before .before .before .before .before in
-    let R = start .pre .0 in
-    let S = start .pre .1 .0 in
-    let (hl, up, down) = start .pre .1 .1 in
-    let (hk, P) = c .before .loop .inv in
-    P .state .targets-room ∙ sym (S .targets-room)
+    let S = c .before .before .before .before .before .before .before .before .before .pre .1 .0 in
+    let (hk, P) = c .before .before .before .loop .inv in
+    P .state .homes-room ∙ sym (S .homes-room)
 
 same-length-8 : tie.Need-same-length-8 Inv-loop μ-loop
 same-length-8 c =
-    let start = c .before .before .before .before .before .before in
-    let R = start .pre .0 in
-    let S = start .pre .1 .0 in
-    let (hl, up, down) = start .pre .1 .1 in
-    let (hk, P) = c .before .loop .inv in
+    let S = c .before .before .before .before .before .before .before .before .before .pre .1 .0 in
+    let (hk, P) = c .before .before .before .loop .inv in
+    P .state .targets-room ∙ sym (S .targets-room)
+
+same-length-9 : tie.Need-same-length-9 Inv-loop μ-loop
+same-length-9 c =
+    let S = c .before .before .before .before .before .before .before .before .before .pre .1 .0 in
+    let (hk, P) = c .before .before .before .loop .inv in
     P .state .flags-room ∙ sym (S .flags-room)
+
+same-length-10 : tie.Need-same-length-10 Inv-loop μ-loop
+same-length-10 c =
+    let S = c .before .before .before .before .before .before .before .before .before .pre .1 .0 in
+    let (hk, P) = c .before .before .before .loop .inv in
+    length-set (c .before .before .before .loop .depths) 510 (freshIn (c .before .before .before .loop .depths)) ∙ P .state .depths-room ∙ sym (S .depths-room)
 
 returns-2 : tie.Need-returns-2 Inv-loop μ-loop
 returns-2 c =
-    let start = c .before .before .before .before .before .before in
+    let start = c .before .before .before .before .before .before .before .before .before in
     let R = start .pre .0 in
     let S = start .pre .1 .0 in
-    let (hl, up, down) = start .pre .1 .1 in
-    let l = c .before .loop in
-    swept R (l .inv .1) (omega arith)
+    let (hl, down) = start .pre .1 .1 in
+    swept R (c .before .before .before .loop .inv .1) (c .before .if1 .left)
 
 pub sweep-spec : {M : Type 1} → statement M
 sweep-spec =
@@ -173,22 +187,28 @@ sweep-spec =
     (tie.spec
     Inv-loop
     μ-loop
+    slice-write-depths
     add-k
     loop-holds
-    sub-k
     slice-read-if1
+    sub-k
+    any-raised-requires
     turn-requires
     same-length
     same-length-2
     same-length-3
     same-length-4
+    same-length-5
     returns
     loop-less
     loop-again
     loop-less-2
     loop-again-2
-    same-length-5
+    slice-read-depths
+    slice-write-depths-2
     same-length-6
     same-length-7
     same-length-8
+    same-length-9
+    same-length-10
     returns-2)

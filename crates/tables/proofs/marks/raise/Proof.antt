@@ -1,26 +1,31 @@
 use native.Mathlib.Omega.{arith}
-use Prim.Native.Nat.{ℕ, _-_, _≤_, _<_}
-use mathlib.Core.Path.{_≡_, refl, ap, _∙_}
-use lib.ListN.{length}
-use Rattle.refinement.specs.Flags.{flagged}
-use Rattle.tables.specs.Arrays.{targetIn, flagIn, flagged-none, flagged-more}
+use Prim.Native.Nat.{_-_, _≤_}
+use mathlib.Core.Path.{subst}
+use Rattle.tables.specs.Marks.{RaisedTo, raised-none, raised-more}
 use Rattle.tables.proofs.marks.raise.Statement.{statement}
 use Rattle.tables.proofs.marks.raise.Tie as tie
+use Rattle.tables.proofs.marks.raise_at.Reads as raise-at-reads
 
 abbrev Inv-loop : tie.InvT-loop
-Inv-loop targets flags₀ actions i n b₀ flags b = (b ≤ actions) × (length flags ≡ length flags₀) × ((k : ℕ) → k < n → flagIn flags k ≡ flagged (targetIn targets) b i (flagIn flags₀) k)
+Inv-loop targets flags₀ actions i from n b₀ flags b = (b ≤ actions) × RaisedTo targets i from n flags₀ flags b
 
 abbrev μ-loop : tie.MeasureT-loop
-μ-loop targets flags₀ actions i n b₀ flags b = actions - b
+μ-loop targets flags₀ actions i from n b₀ flags b = actions - b
 
 loop-holds : tie.Need-loop-holds Inv-loop μ-loop
-loop-holds c = let a = c .before .before .args in (omega arith, refl, λ k h. flagged-none (targetIn (a .targets .now)) (a .i) (flagIn (a .flags .now)) k)
+loop-holds c = let a = c .before .before .args in (omega arith, raised-none (a .targets .now) (a .i) (a .from) (a .n) (a .flags .now))
 
-mul-raise-by : tie.Need-mul-raise-by Inv-loop μ-loop
-mul-raise-by c = omega arith
+mul-raise-at : tie.Need-mul-raise-at Inv-loop μ-loop
+mul-raise-at c = omega arith
 
-raise-by-requires : tie.Need-raise-by-requires Inv-loop μ-loop
-raise-by-requires c κs = omega arith
+add-raise-at : tie.Need-add-raise-at Inv-loop μ-loop
+add-raise-at c = omega arith
+
+sub-raise-at : tie.Need-sub-raise-at Inv-loop μ-loop
+sub-raise-at c = omega arith
+
+raise-at-requires : tie.Need-raise-at-requires Inv-loop μ-loop
+raise-at-requires c κs = omega (arith, c .before .before .loop .inv .1 .same-length)
 
 add-b : tie.Need-add-b Inv-loop μ-loop
 add-b c = omega arith
@@ -30,24 +35,16 @@ loop-less c = omega arith
 
 loop-again : tie.Need-loop-again Inv-loop μ-loop
 loop-again c =
-    let start = c .before .before .before .before .before .before .before .before in
-    let at = c .before .before .before .before .before .loop in (
-      omega arith,
-      c .before .flags .given ∙ at .inv .1,
-      λ k h.
-          c .before .before .raise-by .ensures k h
-          ∙ flagged-more (targetIn (start .args .targets .now)) (at .b) (start .args .i) (flagIn (start .args .flags .now)) k (flagIn (at .flags) k) (at .inv .2 k h),
-    )
+    let at = c .before .before .before .before .before .loop in
+    (omega arith, raised-more (at .b) (omega arith) (omega arith) (at .inv .1) (c .before .before .raise-at .ensures))
 
 same-length : tie.Need-same-length Inv-loop μ-loop
-same-length c = c .before .loop .inv .1
+same-length c = c .before .loop .inv .1 .same-length
 
 returns : tie.Need-returns Inv-loop μ-loop
 returns c =
-    let start = c .before .before .before .before in
-    λ k h.
-    c .before .loop .inv .2 k h
-    ∙ ap (λ (m : ℕ). flagged (targetIn (start .args .targets .now)) m (start .args .i) (flagIn (start .args .flags .now)) k) (omega arith)
+    let start = c .before .before .before .before .args in
+    subst (RaisedTo (start .targets .now) (start .i) (start .from) (start .n) (start .flags .now) (c .before .loop .flags)) (omega arith) (c .before .loop .inv .1)
 
 pub raise-spec : {M : Type 1} → statement M
 raise-spec =
@@ -56,8 +53,10 @@ raise-spec =
     Inv-loop
     μ-loop
     loop-holds
-    mul-raise-by
-    raise-by-requires
+    mul-raise-at
+    add-raise-at
+    sub-raise-at
+    raise-at-requires
     add-b
     loop-less
     loop-again

@@ -1,0 +1,52 @@
+use native.Mathlib.Omega.{arith}
+use Prim.Native.Nat.{_+_}
+use mathlib.Core.Path.{_∙_}
+use lib.ListN.{set, length-set}
+use borrow.Author.Needs.{needs}
+use Rattle.tables.specs.Sources.{begun}
+use Prim.Native.Nat.{_+_}
+use mathlib.Core.Path.{_∙_}
+use lib.ListN.{set, length-set}
+use borrow.Author.Needs.{needs}
+use Rattle.tables.proofs.sources.begin_row.Statement.{statement}
+use Rattle.tables.proofs.sources.begin_row.Tie as tie
+use Rattle.tables.proofs.sources.lower.Reads as lower-reads
+
+mul-depths : tie.Need-mul-depths
+mul-depths c = search needs
+
+slice-write-depths : tie.Need-slice-write-depths
+slice-write-depths c = search needs
+
+add-depths : tie.Need-add-depths
+add-depths c = search needs
+
+mul-depths-2 : tie.Need-mul-depths-2
+mul-depths-2 c = search needs
+
+slice-write-depths-2 : tie.Need-slice-write-depths-2
+slice-write-depths-2 c = let start = c .before in omega (arith, start .pre .0, length-set (start .args .depths .now) (start .args .n) 0)
+
+lower-requires : tie.Need-lower-requires
+lower-requires c κs = search needs
+
+same-length : tie.Need-same-length
+same-length c =
+    let a = c .before .before .before .before .before .args in
+    c .before .depths .given ∙ length-set (set (a .depths .now) (a .n) 0) (255 + a .n) 255 ∙ length-set (a .depths .now) (a .n) 0
+
+returns : tie.Need-returns
+returns c = let start = c .before .before .before .before .before in begun (start .args .n) (start .pre .1) (start .pre .0) (c .before .before .lower .ensures)
+
+pub begin-row-spec : {M : Type 1} → statement M
+begin-row-spec =
+    tie.close
+    (tie.spec
+    mul-depths
+    slice-write-depths
+    add-depths
+    mul-depths-2
+    slice-write-depths-2
+    lower-requires
+    same-length
+    returns)
