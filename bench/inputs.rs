@@ -1,6 +1,7 @@
-//! The sheets that are measured. Every counter has its whole range of 65,536 values.
+//! The sheets that are measured. Every counter has its whole range of 65,536 values, but where the name has fewer and where it is a place.
 
 use crate::generate::{encode, region};
+use crate::hard;
 use crate::sheets::{Move, Region, Rule, Sheet};
 
 const LOW: i64 = -32768;
@@ -68,6 +69,31 @@ fn in_turn() -> Vec<u8> {
     sheet(3, 1, vec![LOW; 3], regions)
 }
 
+/// So many values from the lowest on.
+fn values(count: i64) -> (i64, i64) {
+    (LOW, LOW + count - 1)
+}
+
+/// A ring of 253 rows whose two counters have so many values each, 8 actions.
+fn twin(count: i64) -> Vec<u8> {
+    encode(&hard::twin(126, values(count), &[(1, 37), (1, 77), (2, 21), (2, 56), (2, 101)]))
+}
+
+/// A chain of 254 rows that look at a hub with 7 actions; the hub's counter has so many values.
+fn hub(count: i64) -> Vec<u8> {
+    encode(&hard::hub(253, values(count), values(count), 7))
+}
+
+/// A ring of 251 rows, whose counter is doubled once a lap.
+fn doubling() -> Vec<u8> {
+    encode(&hard::doubling(250, HIGH, 2, false))
+}
+
+/// A chain of 254 rows, all of which look at row 126 with one of 8 actions.
+fn looked_at() -> Vec<u8> {
+    encode(&hard::looked_at(253, &[126, 0, 0, 0, 0]))
+}
+
 /// Each with its name; the steps of a grid are chosen so that the blocks come out as named.
 pub fn all() -> Vec<(&'static str, Vec<u8>)> {
     vec![
@@ -78,10 +104,18 @@ pub fn all() -> Vec<(&'static str, Vec<u8>)> {
         ("255 blocks, 1 counter by one", grid(&[1], HIGH - 254)),
         ("255 blocks, 2 counters", grid(&[4369, 3855], LOW + 1)),
         ("255 blocks, 3 counters", grid(&[21845, 13107, 3855], LOW + 1)),
+        ("252 blocks, doubled once a lap", doubling()),
+        ("254 blocks, 8 actions, all look at one", looked_at()),
         ("refused 9, 1 counter by one", one_of(1)),
         ("refused 9, ring of 31 states", ring(31)),
         ("refused 9, 3 counters, one by one", one_of(3)),
         ("refused 9, 3 counters, in turn", in_turn()),
         ("refused 9, 3 counters, 3 actions", grid(&[1, 1, 1], LOW)),
+        ("refused 9, twin of 1,024 values", twin(1024)),
+        ("refused 9, twin of 4,096 values", twin(4096)),
+        ("refused 9, twin of 65,536 values", twin(65536)),
+        ("refused 9, hub of 1,024 values", hub(1024)),
+        ("refused 9, hub of 16,384 values", hub(16384)),
+        ("refused 9, hub of 65,536 values", hub(65536)),
     ]
 }

@@ -7,6 +7,9 @@ mod straightforward;
 #[path = "../tests/library/generate.rs"]
 #[allow(dead_code)]
 mod generate;
+#[path = "../tests/library/hard.rs"]
+#[allow(dead_code)]
+mod hard;
 #[path = "../include/pilfstera.rs"]
 mod pilfstera;
 #[path = "../tests/library/random.rs"]
@@ -23,6 +26,9 @@ use std::time::Duration;
 /// Listing is left out above so many configurations, and above so many steps of refinement.
 const MOST_CONFIGURATIONS: u64 = 4_000_000;
 const MOST_STEPS: u64 = 300_000_000;
+
+/// The straightforward versions are left out above so many turns of a row.
+const MOST_TURNS: u64 = 20_000_000;
 
 /// A call that takes longer is not repeated.
 const REPEATED: Duration = Duration::from_secs(5);
@@ -51,21 +57,21 @@ fn by_library(sheet: &[u8], out: &mut Outcome) -> bool {
     true
 }
 
+/// False where it would take too long, as in the two below.
 #[no_mangle]
 #[inline(never)]
 fn by_passes(sheet: &[u8], out: &mut Outcome) -> bool {
-    out.answer = straightforward::make::<false>(sheet, &mut out.chart, &mut out.list);
-    true
+    let made = straightforward::make::<false>(sheet, &mut out.chart, &mut out.list, MOST_TURNS);
+    made.map(|answer| out.answer = answer).is_some()
 }
 
 #[no_mangle]
 #[inline(never)]
 fn by_work_list(sheet: &[u8], out: &mut Outcome) -> bool {
-    out.answer = straightforward::make::<true>(sheet, &mut out.chart, &mut out.list);
-    true
+    let made = straightforward::make::<true>(sheet, &mut out.chart, &mut out.list, MOST_TURNS);
+    made.map(|answer| out.answer = answer).is_some()
 }
 
-/// False where listing would take too long.
 #[no_mangle]
 #[inline(never)]
 fn by_listing(bytes: &[u8], out: &mut Outcome) -> bool {

@@ -219,7 +219,30 @@ fn check(sheet: &Sheet, size: usize) -> Result<(), Refusal> {
     Ok(())
 }
 
+/// How often the difference of two values of a counter can be multiplied by a factor other than 1 and -1 while both are in its range: 0
+/// where the sheet has no such factor, else the doublings that fill its widest range.
+fn doublings(sheet: &Sheet) -> u32 {
+    let rules = sheet.regions.iter().flat_map(|r| r.moves.iter().flatten()).flat_map(|m| &m.rules);
+    if rules.into_iter().all(|rule| !matches!(rule, Rule::Carry { factor, .. } if factor.abs() != 1)) {
+        return 0;
+    }
+    let widest = sheet.regions.iter().flat_map(|r| r.ranges).map(Range::size).max().unwrap_or(1);
+    (widest as u64).next_power_of_two().trailing_zeros()
+}
+
 const NO_ROW: u8 = 255;
+
+/// No row is said to be deeper.
+const DEEPEST: u32 = 65_535;
+
+/// A row that is new when all others are deeper than this comes late.
+const LATE: u32 = 15;
+
+/// Why a table is not finished: there are more than 255 blocks, or it took all the turns that were allowed.
+enum Stop {
+    TooMany,
+    TooLong,
+}
 
 /// A reached configuration, with a box that holds its class.
 struct Row {
@@ -227,51 +250,68 @@ struct Row {
     region: usize,
     ranges: Ranges,
     targets: [u8; 8],
-    flagged: bool,
-    /// The rows that have this one as a target; kept with a work list alone.
+    /// A bit for each action, up where it may be unstable.
+    flags: u8,
+    /// No sequence of at most so many actions tells the members of the box apart; kept from the first late row on.
+    depth: u32,
+    /// No row before this one has it as a target; used in passes alone.
+    first_source: usize,
+    /// The rows that have this one as a target, and whether this one is on the work list or has its turn; kept with a work list alone.
     sources: Vec<u8>,
+    listed: bool,
 }
 
 impl Row {
     fn new(sheet: &Sheet, at: Configuration) -> Row {
         let region = sheet.regions.iter().position(|r| r.has(&at)).expect("an accepted sheet");
-        let ranges = sheet.regions[region].ranges;
-        Row { at, region, ranges, targets: [NO_ROW; 8], flagged: true, sources: Vec::new() }
+        let (ranges, flags) = (sheet.regions[region].ranges, u8::MAX >> (8 - sheet.actions));
+        Row { at, region, ranges, targets: [NO_ROW; 8], flags, depth: 0, first_source: 255, sources: Vec::new(), listed: true }
     }
 
     fn has(&self, x: &Configuration) -> bool {
         self.at.state == x.state && within(&self.ranges, x)
     }
+
+    /// Raises the flags of the actions that have row i as a target.
+    fn flag(&mut self, i: usize, actions: usize) {
+        for (a, target) in self.targets[..actions].iter().enumerate() {
+            self.flags |= u8::from(*target == i as u8) << a;
+        }
+    }
 }
 
-/// The rows. Those that may be unstable are flagged, and found in one of two ways: by passes over all rows, as the library does it, or by a
-/// work list and each row's list of sources.
+/// The rows. Those of which a flag is up are found in one of two ways: by passes over all rows, as the library does it, or by a work list
+/// and each row's list of sources.
 struct Table<'a, const LISTS: bool> {
     sheet: &'a Sheet,
     rows: Vec<Row>,
+    /// Whether rows keep their own depths: a row came late.
+    own_depths: bool,
     work: Vec<u8>,
+    turns_left: u64,
 }
 
 impl<const LISTS: bool> Table<'_, LISTS> {
-    /// The row that holds x: the one that did so last time, if it still does. A new one if there is none, and nothing at the 256th.
-    fn find(&mut self, x: Configuration, last: u8) -> Option<usize> {
+    /// The row that holds x: the one that did so last time, if it still does. A new one if there is none, but no 256th.
+    fn find(&mut self, x: Configuration, last: u8) -> Result<usize, Stop> {
         if self.rows.get(last as usize).is_some_and(|row| row.has(&x)) {
-            return Some(last as usize);
+            return Ok(last as usize);
         }
         if let Some(j) = self.rows.iter().position(|row| row.has(&x)) {
-            return Some(j);
+            return Ok(j);
         }
         if self.rows.len() == 255 {
-            return None;
+            return Err(Stop::TooMany);
         }
         self.work.push(self.rows.len() as u8);
         self.rows.push(Row::new(self.sheet, x));
-        Some(self.rows.len() - 1)
+        Ok(self.rows.len() - 1)
     }
 
     fn lead(&mut self, i: usize, a: usize, j: usize) {
         let old = self.rows[i].targets[a];
         self.rows[i].targets[a] = j as u8;
+        self.rows[j].first_source = self.rows[j].first_source.min(i);
         if LISTS && old != j as u8 {
             if old != NO_ROW && !self.rows[i].targets.contains(&old) {
                 self.rows[old as usize].sources.retain(|k| *k as usize != i);
@@ -282,30 +322,34 @@ impl<const LISTS: bool> Table<'_, LISTS> {
         }
     }
 
-    /// Flags the rows that have row i as a target.
+    /// Flags the actions that have row i as a target.
     fn flag_sources(&mut self, i: usize) {
+        let actions = self.sheet.actions;
         if !LISTS {
-            let actions = self.sheet.actions;
-            for row in self.rows.iter_mut().filter(|row| row.targets[..actions].contains(&(i as u8))) {
-                row.flagged = true;
-            }
+            let first = self.rows[i].first_source.min(self.rows.len());
+            self.rows[first..].iter_mut().for_each(|row| row.flag(i, actions));
             return;
         }
         for n in 0..self.rows[i].sources.len() {
             let k = self.rows[i].sources[n];
             let row = &mut self.rows[k as usize];
-            if !row.flagged {
-                row.flagged = true;
+            row.flag(i, actions);
+            if !row.listed {
+                row.listed = true;
                 self.work.push(k);
             }
         }
     }
 
-    /// Takes row i by each action and cuts it. Nothing at the 256th row.
-    fn turn(&mut self, i: usize) -> Option<()> {
-        self.rows[i].flagged = false;
-        let sheet = self.sheet;
+    /// Takes row i by each action whose flag is up, and cuts it. In passes a turn ends where a row is new.
+    fn turn(&mut self, i: usize) -> Result<(), Stop> {
+        self.turns_left = self.turns_left.checked_sub(1).ok_or(Stop::TooLong)?;
+        let (sheet, rows) = (self.sheet, self.rows.len());
         for (a, m) in sheet.regions[self.rows[i].region].moves.iter().enumerate() {
+            if self.rows[i].flags >> a & 1 == 0 {
+                continue;
+            }
+            self.rows[i].flags &= !(1 << a);
             let Some(m) = m else { continue };
             let next = m.apply(&self.rows[i].at);
             let j = self.find(next, self.rows[i].targets[a])?;
@@ -315,53 +359,90 @@ impl<const LISTS: bool> Table<'_, LISTS> {
                 self.rows[i].ranges = cut;
                 self.flag_sources(i);
             }
+            if !LISTS && self.rows.len() > rows {
+                return Ok(());
+            }
         }
-        Some(())
+        if self.own_depths {
+            self.deepen(i);
+        }
+        Ok(())
     }
 
-    /// Turns of flagged rows until there is none; nothing where there are more than 255 rows, or will be: after 256 passes without a new
-    /// row every block is found, if there are at most 255.
-    fn stabilize(&mut self) -> Option<()> {
-        if LISTS {
-            while let Some(i) = self.work.pop() {
-                self.turn(i as usize)?;
-            }
-            return Some(());
+    /// After its turn row i is one deeper than all that it leads to.
+    fn deepen(&mut self, i: usize) {
+        let led = self.rows[i].targets.iter().filter(|j| **j != NO_ROW).map(|j| self.rows[*j as usize].depth);
+        let least = led.min().unwrap_or(DEEPEST);
+        self.rows[i].depth = self.rows[i].depth.max(least + 1).min(DEEPEST);
+    }
+
+    fn stabilize(&mut self) -> Result<(), Stop> {
+        if !LISTS {
+            return self.passes();
         }
-        let mut passes = 0;
-        while self.rows.iter().any(|row| row.flagged) {
+        while let Some(i) = self.work.pop() {
+            self.turn(i as usize)?;
+            let row = &mut self.rows[i as usize];
+            row.listed = row.flags != 0;
+            if row.listed {
+                self.work.push(i);
+            }
+        }
+        Ok(())
+    }
+
+    /// Passes until no flag is up, or until there are more than 255 rows, or will be. A pass without a new row makes all rows one deeper.
+    /// If there are at most 255 blocks, rows that are all 255 deep have each of them, so no row is new after that; and rows that are all as
+    /// deep as the sheet's bound are the blocks, so no box is cut and no flag raised after that.
+    fn passes(&mut self) -> Result<(), Stop> {
+        let bound = 2 * self.sheet.counters as u32 * (1 + doublings(self.sheet));
+        let (mut depth, mut before) = (0, 0);
+        while self.rows.iter().any(|row| row.flags != 0) {
             let rows = self.rows.len();
+            if before >= 255.max(bound * rows as u32) {
+                return Err(Stop::TooMany);
+            }
+            before = depth;
+            if self.own_depths {
+                before = before.max(self.rows.iter().map(|row| row.depth).min().unwrap_or(0));
+            }
             self.pass()?;
             if self.rows.len() == rows {
-                passes += 1;
-            } else if passes >= 256 {
-                return None;
-            } else {
-                passes = 0;
+                depth = before + 1;
+                continue;
             }
+            if before >= 255 {
+                return Err(Stop::TooMany);
+            }
+            if before > LATE {
+                self.own_depths = true;
+                self.rows[..rows].iter_mut().for_each(|row| row.depth = row.depth.max(before));
+            }
+            depth = 0;
         }
-        Some(())
+        Ok(())
     }
 
-    /// Turns of flagged rows from the last to the first, up to a new row.
-    fn pass(&mut self) -> Option<()> {
+    /// Turns of rows of which a flag is up, from the last to the first, up to a new row.
+    fn pass(&mut self) -> Result<(), Stop> {
         let rows = self.rows.len();
         for i in (0..rows).rev() {
-            if self.rows[i].flagged {
+            if self.rows[i].flags != 0 {
                 self.turn(i)?;
             }
             if self.rows.len() > rows {
                 break;
             }
         }
-        Some(())
+        Ok(())
     }
 }
 
-fn refine<const LISTS: bool>(sheet: &Sheet) -> Option<Vec<Row>> {
-    let mut table = Table::<LISTS> { sheet, rows: vec![Row::new(sheet, sheet.start)], work: vec![0] };
+fn refine<const LISTS: bool>(sheet: &Sheet, turns: u64) -> Result<Vec<Row>, Stop> {
+    let mut table =
+        Table::<LISTS> { sheet, rows: vec![Row::new(sheet, sheet.start)], own_depths: false, work: vec![0], turns_left: turns };
     table.stabilize()?;
-    Some(table.rows)
+    Ok(table.rows)
 }
 
 /// The rows in the chart's order, and the number of each.
@@ -400,11 +481,7 @@ fn write(sheet: &Sheet, rows: &[Row], chart: &mut [u8], list: &mut [u8]) {
     }
 }
 
-/// Chart and box list of a sheet, from the front of two buffers; the number of blocks, or a refusal.
-pub fn make<const LISTS: bool>(bytes: &[u8], chart: &mut [u8], list: &mut [u8]) -> Result<usize, Refusal> {
-    let (sheet, size) = read(bytes)?;
-    check(&sheet, size)?;
-    let Some(rows) = refine::<LISTS>(&sheet) else { return refuse(9, 0) };
+fn answer(sheet: &Sheet, rows: &[Row], chart: &mut [u8], list: &mut [u8]) -> Result<usize, Refusal> {
     for (needed, room) in
         [(7 + rows.len() * (2 + sheet.actions), chart.len()), (rows.len() * (1 + 4 * sheet.counters), list.len())]
     {
@@ -412,6 +489,21 @@ pub fn make<const LISTS: bool>(bytes: &[u8], chart: &mut [u8], list: &mut [u8]) 
             return refuse(10, needed);
         }
     }
-    write(&sheet, &rows, chart, list);
+    write(sheet, rows, chart, list);
     Ok(rows.len())
+}
+
+/// Chart and box list of a sheet, from the front of two buffers: the number of blocks, or a refusal; nothing where it takes more than so
+/// many turns.
+pub fn make<const LISTS: bool>(bytes: &[u8], chart: &mut [u8], list: &mut [u8], turns: u64) -> Option<Result<usize, Refusal>> {
+    let checked = read(bytes).and_then(|(sheet, size)| check(&sheet, size).map(|()| sheet));
+    let sheet = match checked {
+        Ok(sheet) => sheet,
+        Err(refusal) => return Some(Err(refusal)),
+    };
+    match refine::<LISTS>(&sheet, turns) {
+        Ok(rows) => Some(answer(&sheet, &rows, chart, list)),
+        Err(Stop::TooMany) => Some(refuse(9, 0)),
+        Err(Stop::TooLong) => None,
+    }
 }

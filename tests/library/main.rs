@@ -3,6 +3,7 @@
 
 mod charts;
 mod generate;
+mod hard;
 mod library;
 mod random;
 mod sheets;
@@ -165,13 +166,14 @@ impl Test {
         self.count(format!("run on a refused {kind}: refused {}", refusal.number));
     }
 
-    /// Check, chart, box list and runs of any bytes, taken for a sheet.
-    fn sheet(&mut self, bytes: &[u8]) {
+    /// Check, chart, box list and runs of any bytes, taken for a sheet. How far that came, in a word.
+    fn sheet(&mut self, bytes: &[u8]) -> &'static str {
         let (number, returned) = self.check("sheet", bytes);
         let read = sheets::check_but_landing(bytes);
         if read.as_ref().is_ok_and(|s| sheets::configurations(s) > MOST_CONFIGURATIONS) {
             same("refusals 1 to 7", bytes, number == 0 || number == 8, true);
-            return self.count("skipped but for refusals 1 to 7: too many configurations");
+            self.count("skipped but for refusals 1 to 7: too many configurations");
+            return "skipped";
         }
         let checked = read.and_then(|s| sheets::check_landing(&s).map(|()| s));
         same("check of a sheet", bytes, (number, returned), told(checked.as_ref().map(|_| 0).map_err(|r| *r)));
@@ -182,21 +184,24 @@ impl Test {
                 let (chart_room, list_room) = (self.rng.below(60), self.rng.below(60));
                 self.make(bytes, &Err(refusal), chart_room, list_room);
                 self.run_refused("sheet", bytes, refusal);
+                "refused by the check"
             }
         }
     }
 
-    fn accepted(&mut self, bytes: &[u8], sheet: &Sheet) {
+    fn accepted(&mut self, bytes: &[u8], sheet: &Sheet) -> &'static str {
         self.count(format!("sheet: accepted, counters {}", sheet.counters));
         let read = |actions: &[u8]| sheets::reading(sheet, actions);
         let Some(expected) = sheets::make(sheet, MOST_STEPS) else {
             self.count("skipped but for the check and runs: too long to refine");
-            return self.runs(&[("sheet", bytes)], sheet.actions, read);
+            self.runs(&[("sheet", bytes)], sheet.actions, read);
+            return "skipped";
         };
         let Ok(made) = &expected else {
             self.make(bytes, &expected, 3000, 4000);
             self.make(bytes, &expected, 0, 0);
-            return self.runs(&[("sheet", bytes)], sheet.actions, read);
+            self.runs(&[("sheet", bytes)], sheet.actions, read);
+            return "refused 9";
         };
         self.count(match made.blocks {
             1 => "chart of 1 block",
@@ -213,6 +218,7 @@ impl Test {
         let checked = self.check("chart", &made.chart);
         same("check of the chart made", bytes, checked, (0, 0));
         self.runs(&[("sheet", bytes), ("chart", &made.chart)], sheet.actions, read);
+        "charted"
     }
 
     /// Check and runs of any bytes, taken for a chart.
@@ -307,6 +313,17 @@ fn grids(test: &mut Test, count: usize) {
     }
 }
 
+/// So many sheets of each of the kinds that are measured, with short ranges.
+fn hard_sheets(test: &mut Test, count: usize) {
+    for (kind, small) in hard::SMALL {
+        for _ in 0..count {
+            let bytes = generate::encode(&small(&mut test.rng));
+            let came = test.sheet(&bytes);
+            test.count(format!("{kind}: {came}"));
+        }
+    }
+}
+
 fn random_charts(test: &mut Test, count: usize) {
     for _ in 0..count {
         let bytes = generate::chart(&mut test.rng);
@@ -329,6 +346,8 @@ fn kinds() -> Vec<String> {
     all.extend(numbers("run on a refused chart: refused ", &[1, 2, 3, 4, 12, 13, 14]));
     all.extend(numbers("run on a sheet: refused ", &[3, 10, 11]));
     all.extend(numbers("run on a chart: refused ", &[3, 10, 11]));
+    let hard = hard::SMALL.iter().flat_map(|(kind, _)| ["charted", "refused 9"].map(|came| format!("{kind}: {came}")));
+    all.extend(hard);
     let others = [
         "make: done",
         "make: refused 10 for the chart",
@@ -358,6 +377,7 @@ fn main() {
     random_sheets(&mut test, count as usize);
     grids(&mut test, count as usize / 40);
     random_charts(&mut test, count as usize);
+    hard_sheets(&mut test, count as usize / 60);
     for (kind, times) in &test.kinds {
         println!("{times:8} {kind}");
     }
