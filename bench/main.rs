@@ -10,6 +10,8 @@ mod generate;
 #[path = "../tests/library/hard.rs"]
 #[allow(dead_code)]
 mod hard;
+#[path = "../tests/library/partition.rs"]
+mod partition;
 #[path = "../include/pilfstera.rs"]
 mod pilfstera;
 #[path = "../tests/library/random.rs"]
@@ -23,9 +25,8 @@ use sheets::Refusal;
 use std::process::Command;
 use std::time::Duration;
 
-/// Listing is left out above so many configurations, and above so many steps of refinement.
-const MOST_CONFIGURATIONS: u64 = 4_000_000;
-const MOST_STEPS: u64 = 300_000_000;
+/// Listing is left out above so many configurations.
+const MOST_CONFIGURATIONS: u64 = 20_000_000;
 
 /// The straightforward versions are left out above so many turns of a row.
 const MOST_TURNS: u64 = 20_000_000;
@@ -79,8 +80,7 @@ fn by_listing(bytes: &[u8], out: &mut Outcome) -> bool {
     if sheets::configurations(&sheet) > MOST_CONFIGURATIONS {
         return false;
     }
-    let Some(made) = sheets::make(&sheet, MOST_STEPS) else { return false };
-    out.answer = made.map(|made| {
+    out.answer = sheets::make(&sheet).map(|made| {
         out.chart[..made.chart.len()].copy_from_slice(&made.chart);
         out.list[..made.list.len()].copy_from_slice(&made.list);
         made.blocks

@@ -5,6 +5,7 @@ mod charts;
 mod generate;
 mod hard;
 mod library;
+mod partition;
 mod random;
 mod sheets;
 mod wrapper;
@@ -15,9 +16,8 @@ use sheets::{Made, Reading, Refusal, Sheet};
 use std::collections::BTreeMap;
 use std::process::exit;
 
-/// Above so many configurations, or so many steps of refinement, a damaged sheet is compared no further than refusals 1 to 7.
+/// Above so many configurations a damaged sheet is compared no further than refusals 1 to 7.
 const MOST_CONFIGURATIONS: u64 = 200_000;
-const MOST_STEPS: u64 = 5_000_000;
 
 struct Test {
     rng: Random,
@@ -192,11 +192,7 @@ impl Test {
     fn accepted(&mut self, bytes: &[u8], sheet: &Sheet) -> &'static str {
         self.count(format!("sheet: accepted, counters {}", sheet.counters));
         let read = |actions: &[u8]| sheets::reading(sheet, actions);
-        let Some(expected) = sheets::make(sheet, MOST_STEPS) else {
-            self.count("skipped but for the check and runs: too long to refine");
-            self.runs(&[("sheet", bytes)], sheet.actions, read);
-            return "skipped";
-        };
+        let expected = sheets::make(sheet);
         let Ok(made) = &expected else {
             self.make(bytes, &expected, 3000, 4000);
             self.make(bytes, &expected, 0, 0);
@@ -272,11 +268,11 @@ fn named(test: &mut Test) {
         (counted(1, 255), Ok(255)),
     ];
     for (bytes, expected) in &cases {
-        let made = sheets::check_but_landing(bytes).and_then(|s| sheets::make(&s, MOST_STEPS).expect("a small sheet"));
+        let made = sheets::check_but_landing(bytes).and_then(|s| sheets::make(&s));
         same("the independent implementation", bytes, made.as_ref().map(|m| m.blocks).map_err(|r| *r), *expected);
         test.sheet(bytes);
     }
-    let sample = sheets::check_but_landing(&cases[0].0).and_then(|s| sheets::make(&s, MOST_STEPS).expect("a small sheet"));
+    let sample = sheets::check_but_landing(&cases[0].0).and_then(|s| sheets::make(&s));
     let chart = sample.map(|made| hex(&made.chart));
     same("the sample sheet's chart", &cases[0].0, chart, Ok("42 43 48 01 00 01 03 0A 00 01 0A 00 02 14 00 FF".into()));
 }
@@ -296,7 +292,7 @@ fn random_sheets(test: &mut Test, count: usize) {
 /// The chart of an accepted sheet, damaged.
 fn damaged_chart(test: &mut Test, accepted: &[u8]) {
     let sheet = sheets::check_but_landing(accepted).expect("accepted");
-    if let Some(Ok(made)) = sheets::make(&sheet, MOST_STEPS) {
+    if let Ok(made) = sheets::make(&sheet) {
         let damaged = generate::damaged(&mut test.rng, &made.chart);
         test.chart(&damaged);
     }

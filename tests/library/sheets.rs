@@ -1,8 +1,8 @@
 //! Sheets, read straight from document 01 and by no method of the library: every configuration is listed, the partition of all of
 //! them is refined by labels and targets until nothing changes, and the blocks are those that the start reaches.
 
+use crate::partition::{refine, NONE as BARRED};
 use std::collections::HashMap;
-use std::hash::{BuildHasherDefault, Hasher};
 
 #[derive(Clone, Copy, PartialEq, Eq, Debug)]
 pub struct Refusal {
@@ -203,8 +203,6 @@ pub fn configurations(sheet: &Sheet) -> u64 {
     sheet.regions.iter().map(volume).sum()
 }
 
-const BARRED: u32 = u32::MAX;
-
 /// All configurations of a sheet by number, region after region, and where each action leads.
 struct Listed<'a> {
     sheet: &'a Sheet,
@@ -259,52 +257,13 @@ fn list(sheet: &Sheet) -> Result<Listed<'_>, Refusal> {
     Ok(listed)
 }
 
-#[derive(Default)]
-struct Mixer(u64);
-
-impl Hasher for Mixer {
-    fn finish(&self) -> u64 {
-        self.0
-    }
-
-    fn write(&mut self, _: &[u8]) {
-        unreachable!()
-    }
-
-    fn write_u64(&mut self, n: u64) {
-        let m = n.wrapping_mul(0x9E37_79B9_7F4A_7C15);
-        self.0 = m ^ m >> 32;
-    }
-}
-
-type Names = HashMap<u64, u32, BuildHasherDefault<Mixer>>;
-
-/// The part of each configuration; nothing where that takes more than so many steps.
-fn refine(listed: &Listed, steps: u64) -> Option<Vec<u32>> {
-    let (count, actions) = (listed.all.len(), listed.sheet.actions);
-    let mut part: Vec<u32> = Vec::with_capacity(count);
+/// The part of each configuration: labels, refined by targets. The configurations of a region bar the same actions.
+fn parts(listed: &Listed) -> Vec<u32> {
+    let mut labels: Vec<u32> = Vec::with_capacity(listed.all.len());
     for (r, region) in listed.sheet.regions.iter().enumerate() {
-        part.resize(listed.first[r + 1], u32::from(region.label));
+        labels.resize(listed.first[r + 1], u32::from(region.label));
     }
-    let (mut parts, mut left) = (listed.sheet.regions.len(), steps);
-    loop {
-        left = left.checked_sub((count * actions) as u64)?;
-        let old = part.clone();
-        let mut names = Names::default();
-        for a in 0..actions {
-            names.clear();
-            for k in 0..count {
-                let to = listed.next[k * actions + a];
-                let then = if to == BARRED { BARRED } else { old[to as usize] };
-                let fresh = names.len() as u32;
-                part[k] = *names.entry(u64::from(part[k]) << 32 | u64::from(then)).or_insert(fresh);
-            }
-        }
-        if names.len() == parts {
-            return Some(part);
-        }
-        parts = names.len();
-    }
+    refine(&labels, &listed.next, listed.sheet.actions)
 }
 
 /// The numbers of the configurations that stand for the blocks, as first named, and the block of each part.
@@ -374,15 +333,15 @@ pub fn check_landing(sheet: &Sheet) -> Result<(), Refusal> {
     list(sheet).map(|_| ())
 }
 
-/// Refusals 8 and 9, chart and box list, of a sheet that passed 1 to 7; nothing where it takes more than so many steps.
-pub fn make(sheet: &Sheet, steps: u64) -> Option<Result<Made, Refusal>> {
-    let listed = match list(sheet) {
-        Ok(listed) => listed,
-        Err(refusal) => return Some(Err(refusal)),
-    };
-    let part = refine(&listed, steps)?;
+/// Refusals 8 and 9, chart and box list, of a sheet that passed 1 to 7.
+pub fn make(sheet: &Sheet) -> Result<Made, Refusal> {
+    let listed = list(sheet)?;
+    let part = parts(&listed);
     let (order, block) = reach(&listed, &part);
-    Some(if order.len() > 255 { refuse(9, 0) } else { Ok(write(&listed, &part, &order, &block)) })
+    if order.len() > 255 {
+        return refuse(9, 0);
+    }
+    Ok(write(&listed, &part, &order, &block))
 }
 
 /// The reading of an action sequence from the start of an accepted sheet.
