@@ -1,4 +1,3 @@
-pub mod Padding
 pub mod State
 pub mod Settling
 pub mod Steps

@@ -38,12 +38,12 @@ use Rattle.sheet_bytes.specs.Three.{rangesMeant, valuesMeant, rulesMeant, boxMe
 use Rattle.sheet_bytes.specs.Space.{ValuesWithin, landThree, land-meant}
 use Rattle.sheet_bytes.specs.Cuts.{cutsThree}
 use Rattle.sheet_bytes.specs.Bounds.{RangesWithin, RulesFit, rules-fit}
-use Rattle.tables.specs.Arrays.{CellsRoom, HomesRoom, TargetsRoom, FlagsRoom, DepthsRoom, valuesIn, rangesIn, regionIn, stateIn, configIn, boxIn, targetIn, flagIn, depthIn, sourceIn, firstIn, putRanges, putValues, putRanges-length, putValues-length, putHome-length, ranges-same, ranges-other, values-kept, values-same, values-other, ranges-kept, region-same, state-same as home-same, region-other, state-other}
+use Rattle.tables.specs.Arrays.{CellsRoom, HomesRoom, TargetsRoom, FlagsRoom, BoundsRoom, valuesIn, rangesIn, regionIn, stateIn, configIn, boxIn, targetIn, flagIn, depthIn, sourceIn, firstIn, putRanges, putValues, putRanges-length, putValues-length, putHome-length, ranges-same, ranges-other, values-kept, values-same, values-other, ranges-kept, region-same, state-same as home-same, region-other, state-other}
 use Rattle.tables.specs.Marks.{raised-down, RaisedTo, RowRaised, DownBelow}
 use Rattle.tables.specs.Depths.{Deepened, Levelled}
 use Rattle.tables.specs.Sources.{Noting, Opening, Begun}
 use Rattle.tables.specs.Meaning.{Ready, rowIn, holdsIn, moveIn, move-in, box-in, covered-few, newCells, newHomes}
-use Rattle.minimize.specs.Padding.{PaddedValues, PaddedRanges, PaddedRules, box-padded, start-padded, move-padded, land-padded, padded-same, ranges-within, values-within, cuts-meant, cuts-padded}
+use Rattle.tables.specs.Padding.{PaddedValues, PaddedRanges, PaddedRules, box-padded, start-padded, move-padded, land-padded, padded-same, ranges-within, values-within, cuts-meant, cuts-padded}
 
 -- The arrays hold a state of the refinement loop with n rows. No row below the lowest source of another leads to it by an action whose flag is down, and no
 -- row below the first has a flag up.
@@ -52,7 +52,7 @@ pub record State (s : List ℕ) (shape : Shape) (c : List ℤ) (h t f d : List �
   pub homes-room : HomesRoom h
   pub targets-room : TargetsRoom t
   pub flags-room : FlagsRoom f
-  pub depths-room : DepthsRoom d
+  pub bounds-room : BoundsRoom d
   pub working : Working (decode s) n (rowIn (shape .counters) c h) (targetIn t) (flagIn f) (depthIn d)
   pub sourced : (k b : ℕ) → k < n → b < shape .actions → flagIn f k b ≡ 0 → targetIn t k b < 255 → sourceIn d (targetIn t k b) ≤ k
   pub lowest : (k : ℕ) → k < n → k < firstIn d → DownBelow f k (shape .actions)
@@ -249,7 +249,7 @@ module _ {s : List ℕ} {shape : Shape} (R : Ready s shape) where
           homes-room = S .homes-room;
           targets-room = length-set t (255 * a + i) 255 ∙ S .targets-room;
           flags-room = length-set f (255 * a + i) 0 ∙ S .flags-room;
-          depths-room = S .depths-room;
+          bounds-room = S .bounds-room;
           working =
               working-barred (decode s) (R .well) {t′ = targetIn (set t (255 * a + i) 255)} {f′ = flagIn (set f (255 * a + i) 0)} i a (S .working) e
               (stored-there t i a 255 (S .targets-room) (omega arith) (omega arith)) (stored-elsewhere t n (decode s .actions) i a 255 few hi)
@@ -322,7 +322,7 @@ module _ {s : List ℕ} {shape : Shape} (R : Ready s shape) where
               homes-room = S .homes-room;
               targets-room = length-set t (255 * a + i) j ∙ S .targets-room;
               flags-room = length-set f (255 * a + i) 0 ∙ S .flags-room;
-              depths-room = ld ∙ S .depths-room;
+              bounds-room = ld ∙ S .bounds-room;
               working =
                   working-depths (decode s) (R .well)
                   (working-same (decode s) (R .well) {t′ = targetIn (set t (255 * a + i) j)} {f′ = flagIn (set f (255 * a + i) 0)} i a j (S .working) hi hj (O .meant)
@@ -362,7 +362,7 @@ module _ {s : List ℕ} {shape : Shape} (R : Ready s shape) where
                 homes-room = S .homes-room;
                 targets-room = length-set t (255 * a + i) j ∙ S .targets-room;
                 flags-room = U .same-length ∙ length-set f (255 * a + i) 0 ∙ S .flags-room;
-                depths-room = ld ∙ S .depths-room;
+                bounds-room = ld ∙ S .bounds-room;
                 working = working-depths (decode s) (R .well) Q (λ k l. P .notes .depths k (omega arith));
                 sourced = λ k b l w z. stored-sourced d′ j ha (P .notes .sources) (λ q. P .notes .noted) k b l w (down k b l w z .0);
                 lowest = λ k l q b w.
@@ -503,7 +503,7 @@ module _ {s : List ℕ} {shape : Shape} (R : Ready s shape) (c : List ℤ) (h : 
         go (no d) = old k (omega arith) d
 
     -- the arrays with the new row hold a state, where its table does
-    new-arrays : (t f f′ d d′ : List ℕ) → TargetsRoom t → FlagsRoom f′ → DepthsRoom d′ → RowRaised f f′ n → Begun d d′ n → PaddedValues (shape .counters) (x .values)
+    new-arrays : (t f f′ d d′ : List ℕ) → TargetsRoom t → FlagsRoom f′ → BoundsRoom d′ → RowRaised f f′ n → Begun d d′ n → PaddedValues (shape .counters) (x .values)
         → ((k b : ℕ) → k < n → b < shape .actions → flagIn f k b ≡ 0 → targetIn t k b < 255 → (targetIn t k b < n) × (sourceIn d (targetIn t k b) ≤ k))
         → ((k : ℕ) → k < n → k < firstIn d → DownBelow f k (shape .actions))
         → ((k : ℕ) → k < n → regionIn h k ≡ regionNumber (decode s) (configMeant (shape .counters) (configIn c h k)))
@@ -517,7 +517,7 @@ module _ {s : List ℕ} {shape : Shape} (R : Ready s shape) (c : List ℤ) (h : 
           homes-room = new-homes-room rh;
           targets-room = rt;
           flags-room = rf;
-          depths-room = rd;
+          bounds-room = rd;
           working = Q;
           sourced = λ m b l.
               grown {P = λ k. (b : ℕ) → b < shape .actions → flagIn f′ k b ≡ 0 → targetIn t k b < 255 → sourceIn d′ (targetIn t k b) ≤ k}
@@ -564,7 +564,7 @@ module _ {s : List ℕ} {shape : Shape} (R : Ready s shape) where
           (λ k b l w. U .others k b (omega arith) (λ e. omega arith))
           (λ b w. let e = U .own b (omega (arith, actions-decoded R)) in omega arith)
           (B .depths) (B .own) in (
-            new-arrays R c h n next (S .cells-room) (S .homes-room) hn t f f′ d d′ (S .targets-room) (lf ∙ S .flags-room) (ld ∙ S .depths-room) U B
+            new-arrays R c h n next (S .cells-room) (S .homes-room) hn t f f′ d d′ (S .targets-room) (lf ∙ S .flags-room) (ld ∙ S .bounds-room) U B
                 (land-padded (shape .counters) m (configIn c h i) (O .padded))
                 (λ k b l w z q. (working-target (decode s) (R .well) k b (S .working) l (omega (arith, actions-decoded R)) z q, S .sourced k b l w z q)) (S .lowest) (S .located) (S .values-padded) (S .ranges-padded) Q,
             p,
@@ -610,7 +610,7 @@ module _ {s : List ℕ} {shape : Shape} (R : Ready s shape) where
   pub start-covered : Covered (decode s) (configMeant (shape .counters) (startThree s))
   start-covered = subst (Covered (decode s)) (sym start-config) (R .well .start-covered)
 
-  pub state-first : (c : List ℤ) (h t f f′ d d′ : List ℕ) → CellsRoom c → HomesRoom h → TargetsRoom t → FlagsRoom f′ → DepthsRoom d′ → RowRaised f f′ 0 → Begun d d′ 0
+  pub state-first : (c : List ℤ) (h t f f′ d d′ : List ℕ) → CellsRoom c → HomesRoom h → TargetsRoom t → FlagsRoom f′ → BoundsRoom d′ → RowRaised f f′ 0 → Begun d d′ 0
       → State s shape (newCells (shape .counters) s c 0 (startThree s)) (newHomes (shape .counters) s h 0 (startThree s)) t f′ d′ 1
   state-first c h t f f′ d d′ rc rh rt rf rd U B =
       let g = actions-few R in
@@ -630,7 +630,7 @@ module _ {s : List ℕ} {shape : Shape} (R : Ready s shape) where
           homes-room = S .homes-room;
           targets-room = S .targets-room;
           flags-room = S .flags-room;
-          depths-room = L .same-length ∙ S .depths-room;
+          bounds-room = L .same-length ∙ S .bounds-room;
           working = working-level (decode s) (R .well) {d′ = depthIn d′} e (S .working) (λ j. ⊎-elim (λ z. inl z) (λ z. inr (z .1, E j (z .0))) (L .each j));
           sourced = λ m b l w z q. let e = behind (255 + targetIn t m b) (omega arith) in let y = S .sourced m b l w z q in omega arith;
           lowest = λ m l q. let e = behind 510 (omega arith) in S .lowest m l (omega arith);
@@ -652,7 +652,7 @@ module _ {s : List ℕ} {shape : Shape} (R : Ready s shape) where
           homes-room = S .homes-room;
           targets-room = S .targets-room;
           flags-room = S .flags-room;
-          depths-room = l ∙ S .depths-room;
+          bounds-room = l ∙ S .bounds-room;
           working =
               working-deeper (decode s) (R .well) {d′ = depthIn d′} i (D .reach) (S .working) hi (λ b w. N b (omega (arith, actions-decoded R)))
               (λ b w. D .reached b (omega (arith, actions-decoded R))) (D .own) (λ j q. D .others j);
@@ -676,7 +676,7 @@ module _ {s : List ℕ} {shape : Shape} (R : Ready s shape) where
           homes-room = S .homes-room;
           targets-room = S .targets-room;
           flags-room = S .flags-room;
-          depths-room = length-set d 511 v ∙ S .depths-room;
+          bounds-room = length-set d 511 v ∙ S .bounds-room;
           working = working-depths (decode s) (R .well) (S .working) (λ k l. getD-set-other d 511 k v 0 (λ e. omega arith));
           sourced = λ k b l w z q. let e = getD-set-other d 511 (255 + targetIn t k b) v 0 (λ e. omega arith) in let y = S .sourced k b l w z q in omega arith;
           lowest = λ k l q. let e = getD-set-other d 511 510 v 0 (λ e. omega arith) in S .lowest k l (omega arith);
@@ -693,10 +693,10 @@ module _ {s : List ℕ} {shape : Shape} (R : Ready s shape) where
           homes-room = S .homes-room;
           targets-room = S .targets-room;
           flags-room = S .flags-room;
-          depths-room = length-set d 510 v ∙ S .depths-room;
+          bounds-room = length-set d 510 v ∙ S .bounds-room;
           working = working-depths (decode s) (R .well) (S .working) (λ k l. getD-set-other d 510 k v 0 (λ e. omega arith));
           sourced = λ k b l w z q. let e = getD-set-other d 510 (255 + targetIn t k b) v 0 (λ e. omega arith) in let y = S .sourced k b l w z q in omega arith;
-          lowest = λ k l q. let e = getD-set-same d 510 v 0 (omega (arith, S .depths-room)) in down k l (omega arith);
+          lowest = λ k l q. let e = getD-set-same d 510 v 0 (omega (arith, S .bounds-room)) in down k l (omega arith);
           located = S .located;
           values-padded = S .values-padded;
           ranges-padded = S .ranges-padded;

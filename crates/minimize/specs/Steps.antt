@@ -10,8 +10,6 @@ use native.Mathlib.Omega.{arith}
 use lib.Dec.{T}
 use lib.ListN.{length, set}
 use lib.IntN.{ℤ}
-use mir.Syntax.{w64}
-use mir.Val.{Fits}
 use Rattle.model.specs.Sheet.{inBox, regionNumber, Covered}
 use Rattle.model.specs.Blocks.{tooMany}
 use Rattle.refinement.specs.Depth.{Shrunk, Deep, AllDeep, Near, Reaches, shrunk-refl, shrunk-trans, shrunk-first, deep-shrunk, reaches-kept}
@@ -26,30 +24,18 @@ use Rattle.sheet_bytes.specs.Decode.{decode}
 use Rattle.sheet_bytes.specs.Three.{configMeant, startThree}
 use Rattle.sheet_bytes.specs.Space.{ValuesWithin, landThree}
 use Rattle.sheet_bytes.specs.Bounds.{RangesWithin}
-use Rattle.tables.specs.Arrays.{CellsRoom, HomesRoom, TargetsRoom, FlagsRoom, DepthsRoom, configIn, rangesIn, regionIn, targetIn, flagIn, depthIn, freshIn}
+use Rattle.tables.specs.Arrays.{CellsRoom, HomesRoom, TargetsRoom, FlagsRoom, BoundsRoom, configIn, rangesIn, regionIn, targetIn, flagIn, depthIn, freshIn}
 use Rattle.tables.specs.Marks.{RowRaised, DownBelow, LastRaised}
 use Rattle.tables.specs.Depths.{Deepened}
 use Rattle.tables.specs.Sources.{Begun}
-use Rattle.tables.specs.Meaning.{Ready, rowIn, holdsIn, Found, moveIn, newCells, newHomes}
-use Rattle.tables.specs.Cutting.{Settled}
+use Rattle.tables.specs.Meaning.{Ready, rowIn, holdsIn, NoneHolds, moveIn, newCells, newHomes}
+use Rattle.tables.specs.Growth.{RowFor, row-there, row-new, row-none, RowsWith}
+use Rattle.tables.specs.Cutting.{Cuttable, Settled}
 use Rattle.minimize.specs.declared.Refined.{Refined}
 use Rattle.minimize.specs.declared.Refined.the-variants.{TooMany, Done}
 use Rattle.minimize.specs.State.{State, Fell, OpenAt, actions-few, ranges-bounded, values-bounded, landing-covered, barred-at, stored-there, stored-elsewhere, lowered-there, lowered-falling}
 use Rattle.minimize.specs.State.{state-barred, advance-stopped, advance-quiet, new-other, state-append, open-new, landed-new, state-many, state-deep, state-deeper, state-done, state-first, start-covered}
 use Rattle.minimize.specs.Settling.{Bounded, lowered-bounded, state-settled, advance-settled}
-
--- numbers of rows
-pub room-left : {n : ℕ} → n ≤ 255 → (n ≡ 255 → ⊥) → n < 255
-room-left l q = omega arith
-
-pub one-more-fits : (n : ℕ) → n ≤ 255 → Fits w64 (n + 1)
-one-more-fits n l = record { fits = omega arith }
-
-pub below-next : {i n : ℕ} → i < n → i < n + 1
-below-next h = omega arith
-
-pub last-next : (n : ℕ) → n < n + 1
-last-next n = omega arith
 
 -- the rows of the arrays are each as deep as e says
 abbrev pub AllDeepIn : List ℕ → Shape → List ℤ → List ℕ → ℕ → (ℕ → ℕ) → Type 0
@@ -151,6 +137,11 @@ barred-step {s} {shape} R {c} {h} {t} {f} {d} {n} i a S hi ha {m} e q =
     (λ z. lowered-there f i a (S .flags-room) (omega arith) (omega arith)) (advance-stopped R S i a hi o)
     (stored-there t i a 255 (S .targets-room) (omega arith) (omega arith)) (λ b w z. stored-elsewhere t n (shape .actions) i a 255 few hi i b hi w (λ u. z))
 
+-- What a cut of row i by row j asks: the move is open where row i is.
+cuttable-by : {s : List ℕ} {shape : Shape} (R : Ready s shape) {c : List ℤ} {h t f d : List ℕ} {n i a : ℕ} → State s shape c h t f d n → {m : RegionMove} → OpenAt s shape c h i a m → (j : ℕ)
+    → j < n → Cuttable (shape .counters) (m .rules) (rangesIn c j)
+cuttable-by R S O j l = record { fits = O .fits; bounded = ranges-bounded R S j l; rules-padded = O .padded; wanted-padded = S .ranges-padded j l }
+
 -- A new row: the state with it, in which its landing is in it.
 pub record Appended (s : List ℕ) (shape : Shape) (c : List ℤ) (h t f d : List ℕ) (n i a : ℕ) (m : RegionMove) (c′ : List ℤ) (h′ f′ d′ : List ℕ) : Type 0 where
   pub state : State s shape c′ h′ t f′ d′ (n + 1)
@@ -160,69 +151,17 @@ pub record Appended (s : List ℕ) (shape : Shape) (c : List ℤ) (h t f d : Lis
   pub same : (k : ℕ) → k < n → rowIn (shape .counters) c′ h′ k ≡ rowIn (shape .counters) c h k
   pub deep : DeepIn s shape c h n 255 → tooMany (decode s) ≡ true
 
-module _ {s : List ℕ} {shape : Shape} (R : Ready s shape) {c : List ℤ} {h t f d : List ℕ} {n : ℕ} (S : State s shape c h t f d n) (i a : ℕ) (hi : i < n) (ha : a < shape .actions)
-    {m : RegionMove} (O : OpenAt s shape c h i a m) (x y : Config) (ex : x ≡ landThree m y) (ey : y ≡ configIn c h i) where
-  next-is : x ≡ landThree m (configIn c h i)
-  next-is = ex ∙ ap (landThree m) ey
-
-  found-in : {j : ℕ} → Found (shape .counters) c h x n j → j < n → holdsIn (shape .counters) c h (landThree m (configIn c h i)) j ≡ true
-  found-in {j} F l = ap (λ (z : Config). holdsIn (shape .counters) c h z j) (sym next-is) ∙ F .inside l
-
-  found-out : {j : ℕ} → Found (shape .counters) c h x n j → n ≤ j → (k : ℕ) → k < n → holdsIn (shape .counters) c h (landThree m (configIn c h i)) k ≡ false
-  found-out {j} F l k q =
-      let b = F .few in
-      ap (λ (z : Config). holdsIn (shape .counters) c h z k) (sym next-is) ∙ F .none (omega arith) k q
-
-  pub next-covered : Covered (decode s) (configMeant (shape .counters) x)
-  next-covered = subst (λ (z : Config). Covered (decode s) (configMeant (shape .counters) z)) (sym next-is) (landing-covered R S i a hi O)
-
-  -- the values of the row's representative are within bounds
-  pub values-known : ValuesWithin 1000000 (y .values)
-  values-known = subst (λ (z : Config). ValuesWithin 1000000 (z .values)) (sym ey) (values-bounded R S i hi)
-
-  -- the landing was in row j
-  pub led : {j : ℕ} (c′ : List ℤ) (t′ f′ d′ : List ℕ) → Found (shape .counters) c h x n j → j < n → t′ ≡ set t (255 * a + i) j → length d′ ≡ length d
-      → Settled (m .rules) (shape .actions) c t′ (set f (255 * a + i) 0) d n i j c′ f′ d′ → Outcome s shape c h t f d n c′ h t′ f′ d′ i a n
-  led {j} c′ t′ f′ d′ F l et ld E =
-      let few = S .working .few in
-      let g = actions-few R in
-      let Q = state-settled R S i a hi ha O j l (found-in F l) c′ t′ f′ d′ et ld E in
-      advanced (Q .state) (Q .depths) (Q .bounded) (Q .fell) (Q .lowered) (advance-settled R S i a hi ha O j l (found-in F l) c′ t′ f′ d′ E)
-      (ap (λ (w : List ℕ). targetIn w i a) et ∙ stored-there t i a j (S .targets-room) (omega arith) (omega arith))
-      (λ b w z. ap (λ (v : List ℕ). targetIn v i b) et ∙ stored-elsewhere t n (shape .actions) i a j few hi i b hi w (λ u. z))
-
-  -- it was in none, and there are 255
-  pub led-many : {j : ℕ} (c′ : List ℤ) (h′ t′ f′ d′ : List ℕ) → Found (shape .counters) c h x n j → n ≤ j → n ≡ 255 → Outcome s shape c h t f d n c′ h′ t′ f′ d′ i a 256
-  led-many {j} c′ h′ t′ f′ d′ F l e = too-many (omega arith) (state-many R S i a hi O (found-out F l) e)
-
-  -- it was in none, and came as a new row
-  pub appended : {j : ℕ} (c′ : List ℤ) (h′ f′ d′ : List ℕ) → Found (shape .counters) c h x n j → n ≤ j → n < 255 → c′ ≡ newCells (shape .counters) s c n x
-      → h′ ≡ newHomes (shape .counters) s h n x → length f′ ≡ length f → RowRaised f f′ n → length d′ ≡ length d → Begun d d′ n → Appended s shape c h t f d n i a m c′ h′ f′ d′
-  appended {j} c′ h′ f′ d′ F l hn ec eh lf U ld B =
-      subst (λ (v : List ℤ). Appended s shape c h t f d n i a m v h′ f′ d′) (sym ec)
-      (subst (λ (v : List ℕ). Appended s shape c h t f d n i a m (newCells (shape .counters) s c n x) v f′ d′) (sym eh)
-      (subst (λ (z : Config). Appended s shape c h t f d n i a m (newCells (shape .counters) s c n z) (newHomes (shape .counters) s h n z) f′ d′) (sym next-is) base))
-    where
-      base : Appended s shape c h t f d n i a m (newCells (shape .counters) s c n (landThree m (configIn c h i))) (newHomes (shape .counters) s h n (landThree m (configIn c h i))) f′ d′
-      base =
-          let (Q, p) = state-append R S i a hi O (found-out F l) hn f′ d′ lf U ld B in
-          record {
-            state = Q;
-            opens = open-new R S i a hi O (found-out F l) hn;
-            lands = landed-new R S i a hi O (found-out F l) hn;
-            less =
-                subst
-                (λ (k : ℕ). potentialIn shape (newCells (shape .counters) s c n (landThree m (configIn c h i))) (newHomes (shape .counters) s h n (landThree m (configIn c h i))) k < potentialIn shape c h n)
-                (sym (add-one n)) p;
-            same = λ k b. new-other R c h n (landThree m (configIn c h i)) k (λ e. omega arith);
-            deep = state-deep R S i a hi O (found-out F l);
-          }
+-- Row j has where action a leads from row i: a state of r rows with it, and what cutting row i by it will give.
+pub record Placed (s : List ℕ) (shape : Shape) (c : List ℤ) (h t f d : List ℕ) (n i a : ℕ) (m : RegionMove) (c′ : List ℤ) (h′ f′ d′ : List ℕ) (j r : ℕ) : Type 0 where
+  pub state : State s shape c′ h′ t f′ d′ r
+  pub below : j < r
+  pub own-below : i < r
+  pub cuttable : Cuttable (shape .counters) (m .rules) (rangesIn c′ j)
+  pub settled : (c″ : List ℤ) (t″ f″ d″ : List ℕ) → t″ ≡ set t (255 * a + i) j → length d″ ≡ length d′
+      → Settled (m .rules) (shape .actions) c′ t″ (set f′ (255 * a + i) 0) d′ r i j c″ f″ d″ → Outcome s shape c h t f d n c″ h′ t″ f″ d″ i a r
 
 module _ {s : List ℕ} {shape : Shape} (R : Ready s shape) {c c₁ : List ℤ} {h t f d h₁ f₁ d₁ : List ℕ} {n : ℕ} {m : RegionMove} (i a : ℕ) (hi : i < n) (ha : a < shape .actions)
     (A : Appended s shape c h t f d n i a m c₁ h₁ f₁ d₁) where
-  pub new-bounded : RangesWithin 1000000 (rangesIn c₁ n)
-  new-bounded = ranges-bounded R (A .state) n (omega arith)
-
   -- the rows that were there are as they were
   same-shrunk : Shrunk (sheetFrame (decode s)) n (rowIn (shape .counters) c h) (rowIn (shape .counters) c₁ h₁)
   same-shrunk =
@@ -231,7 +170,7 @@ module _ {s : List ℕ} {shape : Shape} (R : Ready s shape) {c c₁ : List ℤ} 
         inside = λ k b y. subst (λ (r : Row). T (inBox (r .box) y)) (A .same k b);
       }
 
-  pub led-new : (c′ : List ℤ) (t′ f′ d′ : List ℕ) → t′ ≡ set t (255 * a + i) n → length d′ ≡ length d₁
+  led-new : (c′ : List ℤ) (t′ f′ d′ : List ℕ) → t′ ≡ set t (255 * a + i) n → length d′ ≡ length d₁
       → Settled (m .rules) (shape .actions) c₁ t′ (set f₁ (255 * a + i) 0) d₁ (n + 1) i n c′ f′ d′ → Outcome s shape c h t f d n c′ h₁ t′ f′ d′ i a (n + 1)
   led-new c′ t′ f′ d′ et ld E =
       let few = A .state .working .few in
@@ -254,6 +193,81 @@ module _ {s : List ℕ} {shape : Shape} (R : Ready s shape) {c c₁ : List ℤ} 
         bounded = λ e. absurd (omega arith);
         lowered = λ e. absurd (omega arith);
       })
+
+  placed-new : Placed s shape c h t f d n i a m c₁ h₁ f₁ d₁ n (n + 1)
+  placed-new =
+      record { state = A .state; below = omega arith; own-below = omega arith; cuttable = cuttable-by R (A .state) (A .opens) n (omega arith); settled = led-new }
+
+module _ {s : List ℕ} {shape : Shape} (R : Ready s shape) {c : List ℤ} {h t f d : List ℕ} {n : ℕ} (S : State s shape c h t f d n) (i a : ℕ) (hi : i < n) (ha : a < shape .actions)
+    {m : RegionMove} (O : OpenAt s shape c h i a m) (x y : Config) (ex : x ≡ landThree m y) (ey : y ≡ configIn c h i) where
+  next-is : x ≡ landThree m (configIn c h i)
+  next-is = ex ∙ ap (landThree m) ey
+
+  pub next-covered : Covered (decode s) (configMeant (shape .counters) x)
+  next-covered = subst (λ (z : Config). Covered (decode s) (configMeant (shape .counters) z)) (sym next-is) (landing-covered R S i a hi O)
+
+  -- the values of the row's representative are within bounds
+  pub values-known : ValuesWithin 1000000 (y .values)
+  values-known = subst (λ (z : Config). ValuesWithin 1000000 (z .values)) (sym ey) (values-bounded R S i hi)
+
+  -- no row has the landing
+  nowhere : NoneHolds (shape .counters) c h x n → (k : ℕ) → k < n → holdsIn (shape .counters) c h (landThree m (configIn c h i)) k ≡ false
+  nowhere N k q = ap (λ (z : Config). holdsIn (shape .counters) c h z k) (sym next-is) ∙ N k q
+
+  -- it is in row j
+  placed-there : (j : ℕ) → j < n → holdsIn (shape .counters) c h x j ≡ true → Placed s shape c h t f d n i a m c h f d j n
+  placed-there j l u =
+      let few = S .working .few in
+      let g = actions-few R in
+      let v = ap (λ (z : Config). holdsIn (shape .counters) c h z j) (sym next-is) ∙ u in
+      record {
+        state = S;
+        below = l;
+        own-below = hi;
+        cuttable = cuttable-by R S O j l;
+        settled = λ c′ t′ f′ d′ et ld E.
+            let Q = state-settled R S i a hi ha O j l v c′ t′ f′ d′ et ld E in
+            advanced (Q .state) (Q .depths) (Q .bounded) (Q .fell) (Q .lowered) (advance-settled R S i a hi ha O j l v c′ t′ f′ d′ E)
+            (ap (λ (w : List ℕ). targetIn w i a) et ∙ stored-there t i a j (S .targets-room) (omega arith) (omega arith))
+            (λ b w z. ap (λ (q : List ℕ). targetIn q i b) et ∙ stored-elsewhere t n (shape .actions) i a j few hi i b hi w (λ k. z));
+      }
+
+  -- it was in none, and came as a new row
+  appended : (c′ : List ℤ) (h′ f′ d′ : List ℕ) → NoneHolds (shape .counters) c h x n → n < 255 → c′ ≡ newCells (shape .counters) s c n x → h′ ≡ newHomes (shape .counters) s h n x
+      → length f′ ≡ length f → RowRaised f f′ n → length d′ ≡ length d → Begun d d′ n → Appended s shape c h t f d n i a m c′ h′ f′ d′
+  appended c′ h′ f′ d′ N hn ec eh lf U ld B =
+      subst (λ (v : List ℤ). Appended s shape c h t f d n i a m v h′ f′ d′) (sym ec)
+      (subst (λ (v : List ℕ). Appended s shape c h t f d n i a m (newCells (shape .counters) s c n x) v f′ d′) (sym eh)
+      (subst (λ (z : Config). Appended s shape c h t f d n i a m (newCells (shape .counters) s c n z) (newHomes (shape .counters) s h n z) f′ d′) (sym next-is) base))
+    where
+      base : Appended s shape c h t f d n i a m (newCells (shape .counters) s c n (landThree m (configIn c h i))) (newHomes (shape .counters) s h n (landThree m (configIn c h i))) f′ d′
+      base =
+          let (Q, p) = state-append R S i a hi O (nowhere N) hn f′ d′ lf U ld B in
+          record {
+            state = Q;
+            opens = open-new R S i a hi O (nowhere N) hn;
+            lands = landed-new R S i a hi O (nowhere N) hn;
+            less =
+                subst
+                (λ (k : ℕ). potentialIn shape (newCells (shape .counters) s c n (landThree m (configIn c h i))) (newHomes (shape .counters) s h n (landThree m (configIn c h i))) k < potentialIn shape c h n)
+                (sym (add-one n)) p;
+            same = λ k b. new-other R c h n (landThree m (configIn c h i)) k (λ e. omega arith);
+            deep = state-deep R S i a hi O (nowhere N);
+          }
+
+  -- the row for the landing, among r rows
+  pub placed : {c′ : List ℤ} {h′ f′ d′ : List ℕ} {j r : ℕ} → RowFor (shape .counters) s c h f d n x c′ h′ f′ d′ j → (j ≡ 255 → ⊥) → length f′ ≡ length f → length d′ ≡ length d → RowsWith n j r
+      → Placed s shape c h t f d n i a m c′ h′ f′ d′ j r
+  placed (row-there j l u) q lf ld W = subst (Placed s shape c h t f d n i a m c h f d j) (sym (W .old l)) (placed-there j l u)
+  placed {c′} {h′} {f′} {d′} (row-new l N ec eh U B) q lf ld W =
+      subst (Placed s shape c h t f d n i a m c′ h′ f′ d′ n) (sym (W .one-more (omega arith))) (placed-new R i a hi ha (appended c′ h′ f′ d′ N l ec eh lf U ld B))
+  placed (row-none e N) q lf ld W = absurd (q refl)
+
+  -- there is none
+  pub led-many : {c′ c″ : List ℤ} {h′ f′ d′ h″ t″ f″ d″ : List ℕ} {j : ℕ} → RowFor (shape .counters) s c h f d n x c′ h′ f′ d′ j → j ≡ 255 → Outcome s shape c h t f d n c″ h″ t″ f″ d″ i a 256
+  led-many (row-there j l u) e = let few = S .working .few in absurd (omega arith)
+  led-many (row-new l N ec eh U B) e = absurd (omega arith)
+  led-many (row-none q N) e = too-many (omega arith) (state-many R S i a hi O (nowhere N) q)
 
 -- What the actions of row i below a do to the flags.
 pub record BoundedTo (shape : Shape) (f d : List ℕ) (n : ℕ) (f′ d′ : List ℕ) (i a : ℕ) : Type 0 where
@@ -440,7 +454,7 @@ pub started-covered : {s : List ℕ} {shape : Shape} (R : Ready s shape) (x : Co
 started-covered {s} {shape} R x e = subst (λ (y : Config). Covered (decode s) (configMeant (shape .counters) y)) (sym e) (start-covered R)
 
 pub started : {s : List ℕ} {shape : Shape} (R : Ready s shape) (x : Config) (c : List ℤ) (h t f d : List ℕ) (c′ : List ℤ) (h′ f′ d′ : List ℕ) → CellsRoom c → HomesRoom h → TargetsRoom t
-    → FlagsRoom f′ → DepthsRoom d′ → x ≡ startThree s → c′ ≡ newCells (shape .counters) s c 0 x → h′ ≡ newHomes (shape .counters) s h 0 x → RowRaised f f′ 0 → Begun d d′ 0
+    → FlagsRoom f′ → BoundsRoom d′ → x ≡ startThree s → c′ ≡ newCells (shape .counters) s c 0 x → h′ ≡ newHomes (shape .counters) s h 0 x → RowRaised f f′ 0 → Begun d d′ 0
     → State s shape c′ h′ t f′ d′ 1
 started {s} {shape} R x c h t f d c′ h′ f′ d′ rc rh rt rf rd e ec eh U B =
     subst (λ (l : List ℤ). State s shape l h′ t f′ d′ 1) (sym (ec ∙ ap (newCells (shape .counters) s c 0) e))

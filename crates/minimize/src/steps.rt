@@ -9,9 +9,9 @@ use sheet_bytes::Shape;
 use sheet_bytes::space::land;
 use tables::cutting::settle;
 use tables::depths::deepen;
-use tables::growth::append;
+use tables::growth::row_for;
+use tables::growth::rows_with;
 use tables::rows::config_in;
-use tables::search::find;
 use tables::search::move_in;
 
 // Action a of row i, which is open: the new number of rows, or 256 where there are too many.
@@ -22,53 +22,27 @@ pub(crate) fn lead(
     homes: &mut [u8],
     targets: &mut [u8],
     flags: &mut [u8],
-    depths: &mut [usize],
+    bounds: &mut [usize],
     n: usize,
     i: usize,
     a: usize,
     m: RegionMove,
 ) -> usize
     requires { ⌜ Ready (now s) shape ⌝ }
-    requires { ⌜ State (now s) shape (now cells) (now homes) (now targets) (now flags) (now depths) n ⌝ }
+    requires { ⌜ State (now s) shape (now cells) (now homes) (now targets) (now flags) (now bounds) n ⌝ }
     requires { ⌜ (i < n) × (a < shape .actions) ⌝ }
     requires { ⌜ OpenAt (now s) shape (now cells) (now homes) i a m ⌝ }
-    ensures { λ r. ⌜ Outcome (now (s .entry)) shape (now (cells .entry)) (now (homes .entry)) (now (targets .entry)) (now (flags .entry)) (now (depths .entry)) n (now (cells .exit)) (now (homes .exit)) (now (targets .exit)) (now (flags .exit)) (now (depths .exit)) i a r ⌝ }
+    ensures { λ r. ⌜ Outcome (now (s .entry)) shape (now (cells .entry)) (now (homes .entry)) (now (targets .entry)) (now (flags .entry)) (now (bounds .entry)) n (now (cells .exit)) (now (homes .exit)) (now (targets .exit)) (now (flags .exit)) (now (bounds .exit)) i a r ⌝ }
 {
     let last = targets[255 * a + i] as usize;
     let x = land(config_in(cells, homes, i), m);
-    let j = find(cells, homes, shape.counters, x, n, last);
-    if j < n {
-        settle(
-            cells,
-            targets,
-            flags,
-            depths,
-            shape.actions,
-            n,
-            i,
-            a,
-            j,
-            m.rules,
-        );
-        return n;
-    }
-    if n == 255 {
+    let j = row_for(s, shape, cells, homes, flags, bounds, n, x, last);
+    if j == 255 {
         return 256;
     }
-    append(s, shape, cells, homes, flags, depths, n, x);
-    settle(
-        cells,
-        targets,
-        flags,
-        depths,
-        shape.actions,
-        n + 1,
-        i,
-        a,
-        n,
-        m.rules,
-    );
-    n + 1
+    let rows = rows_with(n, j);
+    settle(cells, targets, flags, bounds, shape, rows, i, a, j, m.rules);
+    rows
 }
 
 // Action a of row i, if its flag is up: the new number of rows, or 256 where there are too many.
@@ -79,15 +53,15 @@ pub(crate) fn step(
     homes: &mut [u8],
     targets: &mut [u8],
     flags: &mut [u8],
-    depths: &mut [usize],
+    bounds: &mut [usize],
     n: usize,
     i: usize,
     a: usize,
 ) -> usize
     requires { ⌜ Ready (now s) shape ⌝ }
-    requires { ⌜ State (now s) shape (now cells) (now homes) (now targets) (now flags) (now depths) n ⌝ }
+    requires { ⌜ State (now s) shape (now cells) (now homes) (now targets) (now flags) (now bounds) n ⌝ }
     requires { ⌜ (i < n) × (a < shape .actions) ⌝ }
-    ensures { λ r. ⌜ Outcome (now (s .entry)) shape (now (cells .entry)) (now (homes .entry)) (now (targets .entry)) (now (flags .entry)) (now (depths .entry)) n (now (cells .exit)) (now (homes .exit)) (now (targets .exit)) (now (flags .exit)) (now (depths .exit)) i a r ⌝ }
+    ensures { λ r. ⌜ Outcome (now (s .entry)) shape (now (cells .entry)) (now (homes .entry)) (now (targets .entry)) (now (flags .entry)) (now (bounds .entry)) n (now (cells .exit)) (now (homes .exit)) (now (targets .exit)) (now (flags .exit)) (now (bounds .exit)) i a r ⌝ }
 {
     if flags[255 * a + i] == 0 {
         return n;
@@ -99,7 +73,7 @@ pub(crate) fn step(
         flags[255 * a + i] = 0;
         return n;
     };
-    lead(s, shape, cells, homes, targets, flags, depths, n, i, a, m)
+    lead(s, shape, cells, homes, targets, flags, bounds, n, i, a, m)
 }
 
 // The turn of row i: its actions whose flags are up, and then its depth. It ends where a row is new. The new number of rows, or 256 where there are too many.
@@ -110,21 +84,21 @@ pub(crate) fn turn(
     homes: &mut [u8],
     targets: &mut [u8],
     flags: &mut [u8],
-    depths: &mut [usize],
+    bounds: &mut [usize],
     n: usize,
     i: usize,
 ) -> usize
     requires { ⌜ Ready (now s) shape ⌝ }
-    requires { ⌜ State (now s) shape (now cells) (now homes) (now targets) (now flags) (now depths) n ⌝ }
+    requires { ⌜ State (now s) shape (now cells) (now homes) (now targets) (now flags) (now bounds) n ⌝ }
     requires { ⌜ i < n ⌝ }
-    ensures { λ r. ⌜ Turned (now (s .entry)) shape (now (cells .entry)) (now (homes .entry)) (now (flags .entry)) (now (depths .entry)) n (now (cells .exit)) (now (homes .exit)) (now (targets .exit)) (now (flags .exit)) (now (depths .exit)) i r ⌝ }
+    ensures { λ r. ⌜ Turned (now (s .entry)) shape (now (cells .entry)) (now (homes .entry)) (now (flags .entry)) (now (bounds .entry)) n (now (cells .exit)) (now (homes .exit)) (now (targets .exit)) (now (flags .exit)) (now (bounds .exit)) i r ⌝ }
 {
     for a in 0..shape.actions {
-        let rows = step(s, shape, cells, homes, targets, flags, depths, n, i, a);
+        let rows = step(s, shape, cells, homes, targets, flags, bounds, n, i, a);
         if rows > n {
             return rows;
         }
     }
-    deepen(targets, depths, shape.actions, i);
+    deepen(targets, bounds, shape.actions, i);
     n
 }

@@ -2,7 +2,7 @@
 ghost use Prim.Native.Nat.{_<_, _≤_};
 ghost use Rattle.model.specs.DepthBound.{Doublings};
 ghost use Rattle.sheet_bytes.specs.Decode.{decode};
-ghost use Rattle.tables.specs.Arrays.{CellsRoom, HomesRoom, TargetsRoom, FlagsRoom, DepthsRoom};
+ghost use Rattle.tables.specs.Arrays.{CellsRoom, HomesRoom, TargetsRoom, FlagsRoom, BoundsRoom};
 ghost use Rattle.tables.specs.Meaning.{Ready};
 ghost use Rattle.minimize.specs.State.{State};
 ghost use Rattle.minimize.specs.Steps.{Stable, Answered};
@@ -27,27 +27,27 @@ pub(crate) fn sweep(
     homes: &mut [u8],
     targets: &mut [u8],
     flags: &mut [u8],
-    depths: &mut [usize],
+    bounds: &mut [usize],
     n: usize,
     last: usize,
 ) -> usize
     requires { ⌜ Ready (now s) shape ⌝ }
-    requires { ⌜ State (now s) shape (now cells) (now homes) (now targets) (now flags) (now depths) n ⌝ }
+    requires { ⌜ State (now s) shape (now cells) (now homes) (now targets) (now flags) (now bounds) n ⌝ }
     requires { ⌜ (last < n) × DownAbove (now flags) (shape .actions) last n ⌝ }
-    ensures { λ r. ⌜ Swept (now (s .entry)) shape (now (cells .entry)) (now (homes .entry)) (now (flags .entry)) n (now (cells .exit)) (now (homes .exit)) (now (targets .exit)) (now (flags .exit)) (now (depths .exit)) r ⌝ }
+    ensures { λ r. ⌜ Swept (now (s .entry)) shape (now (cells .entry)) (now (homes .entry)) (now (flags .entry)) n (now (cells .exit)) (now (homes .exit)) (now (targets .exit)) (now (flags .exit)) (now (bounds .exit)) r ⌝ }
 {
-    depths[511] = 255;
+    bounds[511] = 255;
     let mut k = last + 1;
-    while k > depths[510] {
+    while k > bounds[510] {
         k -= 1;
         if any_raised(flags, shape.actions, k) {
-            let rows = turn(s, shape, cells, homes, targets, flags, depths, n, k);
+            let rows = turn(s, shape, cells, homes, targets, flags, bounds, n, k);
             if rows > n {
                 return rows;
             }
         }
     }
-    depths[510] = depths[511];
+    bounds[510] = bounds[511];
     n
 }
 
@@ -60,13 +60,13 @@ pub(crate) fn stabilize(
     homes: &mut [u8],
     targets: &mut [u8],
     flags: &mut [u8],
-    depths: &mut [usize],
+    bounds: &mut [usize],
     m: usize,
 ) -> usize
     requires { ⌜ Ready (now s) shape ⌝ }
-    requires { ⌜ State (now s) shape (now cells) (now homes) (now targets) (now flags) (now depths) 1 ⌝ }
+    requires { ⌜ State (now s) shape (now cells) (now homes) (now targets) (now flags) (now bounds) 1 ⌝ }
     requires { ⌜ (m ≤ 21) × Doublings (decode (now s)) m ⌝ }
-    ensures { λ r. ⌜ Stable (now (s .entry)) shape (now (cells .exit)) (now (homes .exit)) (now (targets .exit)) (now (flags .exit)) (now (depths .exit)) r ⌝ }
+    ensures { λ r. ⌜ Stable (now (s .entry)) shape (now (cells .exit)) (now (homes .exit)) (now (targets .exit)) (now (flags .exit)) (now (bounds .exit)) r ⌝ }
 {
     let mut n = 1;
     let mut depth = 0;
@@ -79,8 +79,8 @@ pub(crate) fn stabilize(
         if before >= exact_depth(shape.counters, n, m) {
             return 256;
         }
-        before = sure_depth(depths, n, depth);
-        let rows = sweep(s, shape, cells, homes, targets, flags, depths, n, last);
+        before = sure_depth(bounds, n, depth);
+        let rows = sweep(s, shape, cells, homes, targets, flags, bounds, n, last);
         if rows > 255 {
             return rows;
         }
@@ -89,7 +89,7 @@ pub(crate) fn stabilize(
                 return 256;
             }
         }
-        depth = depth_after(depths, n, rows, before);
+        depth = depth_after(bounds, n, rows, before);
         n = rows;
     }
 }
@@ -102,17 +102,17 @@ pub(crate) fn begin(
     homes: &mut [u8],
     targets: &[u8],
     flags: &mut [u8],
-    depths: &mut [usize],
+    bounds: &mut [usize],
 )
     requires { ⌜ Ready (now s) shape ⌝ }
     requires { ⌜ CellsRoom (now cells) ⌝ }
     requires { ⌜ HomesRoom (now homes) ⌝ }
     requires { ⌜ TargetsRoom (now targets) ⌝ }
     requires { ⌜ FlagsRoom (now flags) ⌝ }
-    requires { ⌜ DepthsRoom (now depths) ⌝ }
-    ensures { λ _. ⌜ State (now (s .entry)) shape (now (cells .exit)) (now (homes .exit)) (now (targets .entry)) (now (flags .exit)) (now (depths .exit)) 1 ⌝ }
+    requires { ⌜ BoundsRoom (now bounds) ⌝ }
+    ensures { λ _. ⌜ State (now (s .entry)) shape (now (cells .exit)) (now (homes .exit)) (now (targets .entry)) (now (flags .exit)) (now (bounds .exit)) 1 ⌝ }
 {
-    append(s, shape, cells, homes, flags, depths, 0, start_of(s, shape));
+    append(s, shape, cells, homes, flags, bounds, 0, start_of(s, shape));
 }
 
 // The table of the sheet's blocks, in the lent arrays.
@@ -130,10 +130,10 @@ pub fn refine(
     ensures { λ r. ⌜ Answered (now (s .entry)) shape (now (cells .exit)) (now (homes .exit)) (now (targets .exit)) r ⌝ }
 {
     let mut flags = [0u8; 2040];
-    let mut depths = [0usize; 512];
-    begin(s, shape, cells, homes, targets, &mut flags, &mut depths);
+    let mut bounds = [0usize; 512];
+    begin(s, shape, cells, homes, targets, &mut flags, &mut bounds);
     let m = doublings(s, shape);
-    let n = stabilize(s, shape, cells, homes, targets, &mut flags, &mut depths, m);
+    let n = stabilize(s, shape, cells, homes, targets, &mut flags, &mut bounds, m);
     if n > 255 {
         return Refined::TooMany;
     }

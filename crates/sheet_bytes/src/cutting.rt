@@ -55,7 +55,7 @@ fn nothing() -> Ranges
 }
 
 // The old values within b that a rule takes into the wanted range.
-fn cut_by(rule: Rule, wanted: Range, b: Ranges) -> Ranges
+pub fn cut_by(rule: Rule, wanted: Range, b: Ranges) -> Ranges
     requires { ⌜ RuleFits 3 rule ⌝ }
     requires { ⌜ RangeWithin 1000000 wanted ⌝ }
     ensures { λ r. ⌜ r ≡ cutThree rule wanted b ⌝ }

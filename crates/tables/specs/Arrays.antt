@@ -27,8 +27,8 @@ TargetsRoom t = length t ≡ 2040
 abbrev pub FlagsRoom : List ℕ → Type 0
 FlagsRoom f = length f ≡ 2040
 
-abbrev pub DepthsRoom : List ℕ → Type 0
-DepthsRoom d = length d ≡ 512
+abbrev pub BoundsRoom : List ℕ → Type 0
+BoundsRoom d = length d ≡ 512
 
 -- what is stored of row k
 unfoldable pub rangeIn : List ℤ → ℕ → Range

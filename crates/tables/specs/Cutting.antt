@@ -11,9 +11,11 @@ use mir.ValLaws.{toZ-ofZ}
 use Rattle.integers.specs.declared.Range.{Range}
 use Rattle.sheet_bytes.specs.declared.Ranges.{Ranges}
 use Rattle.sheet_bytes.specs.declared.Rules.{Rules}
-use Rattle.sheet_bytes.specs.Cuts.{cutsThree}
+use Rattle.sheet_bytes.specs.Bounds.{RangesWithin, RulesFit}
+use Rattle.sheet_bytes.specs.Cuts.{cutThree, cutsThree}
 use Rattle.tables.specs.Arrays.{rangesIn, sourceIn, putRanges}
 use Rattle.tables.specs.Marks.{RaisedTo}
+use Rattle.tables.specs.Padding.{PaddedRanges, PaddedRules, one-cut}
 use Rattle.tables.specs.Sources.{LoweredAt, Noting, Opening, opening}
 
 -- an answer whether two things are the same
@@ -48,6 +50,18 @@ third-tells a b P e Q f S =
       yes = λ g. let x = P .yes e in let y = Q .yes f in let z = S .yes g in λ i. record { first = x i; second = y i; third = z i };
       no = λ g q. S .no g (ap (λ (k : Ranges). k .third) q);
     }
+
+-- What cutting by rules asks, in a sheet of V counters: all numbers are small, and the counters that the sheet lacks have nothing.
+pub record Cuttable (V# : ℕ) (rules : Rules) (wanted : Ranges) : Type 0 where
+  pub fits : RulesFit rules
+  pub bounded : RangesWithin 1000000 wanted
+  pub rules-padded : PaddedRules V# rules
+  pub wanted-padded : PaddedRanges V# wanted
+
+-- the only counter's rule is all there is to do
+pub cut-by-only : {V# : ℕ} {rules : Rules} {wanted : Ranges} (b r : Ranges) → Cuttable V# rules wanted → V# ≡ 1 → r ≡ cutThree (rules .first) (wanted .first) b → r ≡ cutsThree rules wanted b
+cut-by-only {rules = rules} {wanted = wanted} b r K e d =
+    d ∙ sym (one-cut rules wanted b (subst (λ (v : ℕ). PaddedRules v rules) e (K .rules-padded)) (subst (λ (v : ℕ). PaddedRanges v wanted) e (K .wanted-padded)))
 
 -- the ranges that the rules cut row i to, by row j
 unfoldable pub cutTo : Rules → List ℤ → ℕ → ℕ → Ranges

@@ -7,7 +7,7 @@ use native.Mathlib.Decide.{ℕ-discrete}
 use native.Mathlib.Omega.{arith}
 use lib.ListN.{length, set, length-set}
 use lib.Seq.{getD-set-same, getD-set-other}
-use Rattle.tables.specs.Arrays.{DepthsRoom, targetIn, depthIn}
+use Rattle.tables.specs.Arrays.{BoundsRoom, targetIn, depthIn}
 
 -- row t is k deep, or there is none (255)
 abbrev pub Within : List ℕ → ℕ → ℕ → Type 0
@@ -35,7 +35,7 @@ pub record Deepened (t d d′ : List ℕ) (actions i : ℕ) : Type 0 where
 pub deepened-left : {t d : List ℕ} {actions i : ℕ} (k : ℕ) → DeepBelow t d i k actions → Deepened t d d actions i
 deepened-left k D = record { reach = k; reached = D; own = inl (omega arith); others = λ j n. refl }
 
-pub deepened-to : {t d : List ℕ} {actions i : ℕ} (k : ℕ) → DepthsRoom d → i < 255 → DeepBelow t d i k actions → Deepened t d (set d i (k + 1)) actions i
+pub deepened-to : {t d : List ℕ} {actions i : ℕ} (k : ℕ) → BoundsRoom d → i < 255 → DeepBelow t d i k actions → Deepened t d (set d i (k + 1)) actions i
 deepened-to {t} {d} {actions} {i} k room h D =
     record {
       reach = k;

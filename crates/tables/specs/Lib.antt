@@ -3,4 +3,6 @@ pub mod Marks
 pub mod Depths
 pub mod Sources
 pub mod Meaning
+pub mod Growth
+pub mod Padding
 pub mod Cutting

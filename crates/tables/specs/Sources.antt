@@ -6,7 +6,7 @@ use native.Mathlib.Decide.{ℕ-discrete}
 use native.Mathlib.Omega.{arith}
 use lib.ListN.{length, getD, set}
 use lib.Seq.{getD-set-same, getD-set-other}
-use Rattle.tables.specs.Arrays.{DepthsRoom, depthIn, sourceIn, firstIn, freshIn}
+use Rattle.tables.specs.Arrays.{BoundsRoom, depthIn, sourceIn, firstIn, freshIn}
 
 -- The number at a place was lowered to k, if it was above that.
 pub record LoweredAt (d d′ : List ℕ) (at k : ℕ) : Type 0 where
@@ -90,7 +90,7 @@ pub record Begun (d d′ : List ℕ) (n : ℕ) : Type 0 where
   pub first-own : firstIn d′ ≤ n
   pub first : firstIn d′ ≤ firstIn d
 
-pub begun : {d d′ : List ℕ} (n : ℕ) → n < 255 → DepthsRoom d → LoweredAt (set (set d n 0) (255 + n) 255) d′ 510 n → Begun d d′ n
+pub begun : {d d′ : List ℕ} (n : ℕ) → n < 255 → BoundsRoom d → LoweredAt (set (set d n 0) (255 + n) 255) d′ 510 n → Begun d d′ n
 begun {d} {d′} n h room L =
     let u = getD-set-other (set d n 0) (255 + n) 510 255 0 (λ z. omega arith) in
     let v = getD-set-other d n 510 0 0 (λ z. omega arith) in

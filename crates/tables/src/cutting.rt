@@ -2,9 +2,9 @@
 ghost use mathlib.Core.Path.{_≡_};
 ghost use Prim.Native.Nat.{_+_, _*_, _<_, _≤_};
 ghost use lib.ListN.{set};
-ghost use Rattle.sheet_bytes.specs.Bounds.{RangesWithin, RulesFit};
-ghost use Rattle.tables.specs.Arrays.{CellsRoom, TargetsRoom, FlagsRoom, DepthsRoom, rangesIn};
-ghost use Rattle.tables.specs.Cutting.{Same, CutRow, Settled};
+ghost use Rattle.sheet_bytes.specs.Cuts.{cutsThree};
+ghost use Rattle.tables.specs.Arrays.{CellsRoom, TargetsRoom, FlagsRoom, BoundsRoom, rangesIn};
+ghost use Rattle.tables.specs.Cutting.{Same, Cuttable, CutRow, Settled};
 use crate::marks::raise;
 use crate::rows::put_ranges;
 use crate::rows::ranges_in;
@@ -12,6 +12,8 @@ use crate::sources::lower;
 use integers::Range;
 use sheet_bytes::Ranges;
 use sheet_bytes::Rules;
+use sheet_bytes::Shape;
+use sheet_bytes::cutting::cut_by;
 use sheet_bytes::cutting::cut_by_all;
 
 pub fn same_range(a: Range, b: Range) -> bool
@@ -38,17 +40,28 @@ pub fn same_ranges(a: Ranges, b: Ranges) -> bool
     same_range(a.third, b.third)
 }
 
+// The old values within b that the rules take into the wanted ranges. Where the sheet has one counter, its rule is all there is to do.
+pub fn cut_by_rules(counters: usize, rules: Rules, wanted: Ranges, b: Ranges) -> Ranges
+    requires { ⌜ Cuttable counters rules wanted ⌝ }
+    ensures { λ r. ⌜ r ≡ cutsThree rules wanted b ⌝ }
+{
+    if counters == 1 {
+        let only = rules.first;
+        return cut_by(only, wanted.first, b);
+    }
+    cut_by_all(rules, wanted, b)
+}
+
 // Cuts the ranges of row i to what the rules lead into those of row j; whether that changed them.
-pub fn cut_row(cells: &mut [i64], i: usize, j: usize, rules: Rules) -> bool
+pub fn cut_row(cells: &mut [i64], counters: usize, i: usize, j: usize, rules: Rules) -> bool
     requires { ⌜ CellsRoom (now cells) ⌝ }
     requires { ⌜ (i < 255) × (j < 255) ⌝ }
-    requires { ⌜ RulesFit rules ⌝ }
-    requires { ⌜ RangesWithin 1000000 (rangesIn (now cells) j) ⌝ }
+    requires { ⌜ Cuttable counters rules (rangesIn (now cells) j) ⌝ }
     ensures { λ r. ⌜ CutRow rules (now (cells .entry)) (now (cells .exit)) i j r ⌝ }
 {
     let old = ranges_in(cells, i);
     let wanted = ranges_in(cells, j);
-    let cut = cut_by_all(rules, wanted, old);
+    let cut = cut_by_rules(counters, rules, wanted, old);
     if same_ranges(cut, old) {
         return false;
     }
@@ -62,8 +75,8 @@ pub fn settle(
     cells: &mut [i64],
     targets: &mut [u8],
     flags: &mut [u8],
-    depths: &mut [usize],
-    actions: usize,
+    bounds: &mut [usize],
+    shape: Shape,
     n: usize,
     i: usize,
     a: usize,
@@ -73,23 +86,22 @@ pub fn settle(
     requires { ⌜ CellsRoom (now cells) ⌝ }
     requires { ⌜ TargetsRoom (now targets) ⌝ }
     requires { ⌜ FlagsRoom (now flags) ⌝ }
-    requires { ⌜ DepthsRoom (now depths) ⌝ }
-    requires { ⌜ (actions ≤ 8) × (n ≤ 255) × (i < n) × (a < actions) × (j < n) ⌝ }
-    requires { ⌜ RulesFit rules ⌝ }
-    requires { ⌜ RangesWithin 1000000 (rangesIn (now cells) j) ⌝ }
+    requires { ⌜ BoundsRoom (now bounds) ⌝ }
+    requires { ⌜ (shape .actions ≤ 8) × (n ≤ 255) × (i < n) × (a < shape .actions) × (j < n) ⌝ }
+    requires { ⌜ Cuttable (shape .counters) rules (rangesIn (now cells) j) ⌝ }
     ensures { λ _. ⌜ now (targets .exit) ≡ set (now (targets .entry)) (255 * a + i) j ⌝ }
-    ensures { λ _. ⌜ Settled rules actions (now (cells .entry)) (now (targets .exit)) (set (now (flags .entry)) (255 * a + i) 0) (now (depths .entry)) n i j (now (cells .exit)) (now (flags .exit)) (now (depths .exit)) ⌝ }
+    ensures { λ _. ⌜ Settled rules (shape .actions) (now (cells .entry)) (now (targets .exit)) (set (now (flags .entry)) (255 * a + i) 0) (now (bounds .entry)) n i j (now (cells .exit)) (now (flags .exit)) (now (bounds .exit)) ⌝ }
 {
     targets[255 * a + i] = j as u8;
     flags[255 * a + i] = 0;
-    lower(depths, 255 + j, i);
-    if !cut_row(cells, i, j, rules) {
+    lower(bounds, 255 + j, i);
+    if !cut_row(cells, shape.counters, i, j, rules) {
         return;
     }
-    let from = depths[255 + i];
-    lower(depths, 510, from);
-    lower(depths, 511, from);
+    let from = bounds[255 + i];
+    lower(bounds, 510, from);
+    lower(bounds, 511, from);
     if from < n {
-        raise(targets, flags, actions, i as u8, from, n);
+        raise(targets, flags, shape.actions, i as u8, from, n);
     }
 }

@@ -1,18 +1,18 @@
 // How deep rows are: no sequence of at most so many actions tells the members of a row apart.
 ghost use Prim.Native.Nat.{_<_, _≤_};
-ghost use Rattle.tables.specs.Arrays.{TargetsRoom, DepthsRoom};
+ghost use Rattle.tables.specs.Arrays.{TargetsRoom, BoundsRoom};
 ghost use Rattle.tables.specs.Depths.{Within, DeepBelow, Deepened, AtLeast, Levelled, SureDepth, DepthAfter};
 
 // The lesser of a depth and that of a row; the depth itself where there is no row (255).
-pub fn shallower(depths: &[usize], t: usize, low: usize) -> usize
-    requires { ⌜ DepthsRoom (now depths) ⌝ }
+pub fn shallower(bounds: &[usize], t: usize, low: usize) -> usize
+    requires { ⌜ BoundsRoom (now bounds) ⌝ }
     requires { ⌜ t ≤ 255 ⌝ }
-    ensures { λ r. ⌜ (r ≤ low) × Within (now (depths .entry)) t r ⌝ }
+    ensures { λ r. ⌜ (r ≤ low) × Within (now (bounds .entry)) t r ⌝ }
 {
     if t == 255 {
         return low;
     }
-    let d = depths[t];
+    let d = bounds[t];
     if d < low {
         return d;
     }
@@ -20,80 +20,80 @@ pub fn shallower(depths: &[usize], t: usize, low: usize) -> usize
 }
 
 // The least depth of the rows that the actions of row i lead to; 65,534 where all are barred or deeper.
-pub fn reached_depth(targets: &[u8], depths: &[usize], actions: usize, i: usize) -> usize
+pub fn reached_depth(targets: &[u8], bounds: &[usize], actions: usize, i: usize) -> usize
     requires { ⌜ TargetsRoom (now targets) ⌝ }
-    requires { ⌜ DepthsRoom (now depths) ⌝ }
+    requires { ⌜ BoundsRoom (now bounds) ⌝ }
     requires { ⌜ (actions ≤ 8) × (i < 255) ⌝ }
-    ensures { λ r. ⌜ (r ≤ 65534) × DeepBelow (now (targets .entry)) (now (depths .entry)) i r actions ⌝ }
+    ensures { λ r. ⌜ (r ≤ 65534) × DeepBelow (now (targets .entry)) (now (bounds .entry)) i r actions ⌝ }
 {
     let mut low = 65534;
     for a in 0..actions {
         let t = targets[255 * a + i] as usize;
-        low = shallower(depths, t, low);
+        low = shallower(bounds, t, low);
     }
     low
 }
 
 // Row i is one deeper than what all its actions lead to. That is asked once depths are kept by row (that of the first is not 0), and of a row that is not
 // deep yet: it serves a row that came late, and later the depth by passes rises as fast.
-pub fn deepen(targets: &[u8], depths: &mut [usize], actions: usize, i: usize)
+pub fn deepen(targets: &[u8], bounds: &mut [usize], actions: usize, i: usize)
     requires { ⌜ TargetsRoom (now targets) ⌝ }
-    requires { ⌜ DepthsRoom (now depths) ⌝ }
+    requires { ⌜ BoundsRoom (now bounds) ⌝ }
     requires { ⌜ (actions ≤ 8) × (i < 255) ⌝ }
-    ensures { λ _. ⌜ Deepened (now (targets .entry)) (now (depths .entry)) (now (depths .exit)) actions i ⌝ }
+    ensures { λ _. ⌜ Deepened (now (targets .entry)) (now (bounds .entry)) (now (bounds .exit)) actions i ⌝ }
 {
-    if depths[0] == 0 {
+    if bounds[0] == 0 {
         return;
     }
-    if depths[i] > 15 {
+    if bounds[i] > 15 {
         return;
     }
-    let low = reached_depth(targets, depths, actions, i);
-    if depths[i] <= low {
-        depths[i] = low + 1;
+    let low = reached_depth(targets, bounds, actions, i);
+    if bounds[i] <= low {
+        bounds[i] = low + 1;
     }
 }
 
 // A depth that all rows below n have.
-pub fn common_depth(depths: &[usize], n: usize) -> usize
-    requires { ⌜ DepthsRoom (now depths) ⌝ }
+pub fn common_depth(bounds: &[usize], n: usize) -> usize
+    requires { ⌜ BoundsRoom (now bounds) ⌝ }
     requires { ⌜ n ≤ 255 ⌝ }
-    ensures { λ r. ⌜ AtLeast (now (depths .entry)) n r ⌝ }
+    ensures { λ r. ⌜ AtLeast (now (bounds .entry)) n r ⌝ }
 {
     let mut low = 65535;
     for k in 0..n {
-        low = shallower(depths, k, low);
+        low = shallower(bounds, k, low);
     }
     low
 }
 
 // Every row below n is at least so deep.
-pub fn level(depths: &mut [usize], n: usize, depth: usize)
-    requires { ⌜ DepthsRoom (now depths) ⌝ }
+pub fn level(bounds: &mut [usize], n: usize, depth: usize)
+    requires { ⌜ BoundsRoom (now bounds) ⌝ }
     requires { ⌜ n ≤ 255 ⌝ }
-    ensures { λ _. ⌜ Levelled (now (depths .entry)) (now (depths .exit)) n depth ⌝ }
+    ensures { λ _. ⌜ Levelled (now (bounds .entry)) (now (bounds .exit)) n depth ⌝ }
 {
     for k in 0..n {
-        let old = depths[k];
+        let old = bounds[k];
         let new = if old < depth { depth } else { old };
-        depths[k] = new;
+        bounds[k] = new;
     }
 }
 
 // What is known of all rows: the depth by passes, or the least of their own, once these are kept. They are looked at in the pass
 // after the first of a new row, and in every sixteenth from there on.
-pub fn sure_depth(depths: &[usize], n: usize, depth: usize) -> usize
-    requires { ⌜ DepthsRoom (now depths) ⌝ }
+pub fn sure_depth(bounds: &[usize], n: usize, depth: usize) -> usize
+    requires { ⌜ BoundsRoom (now bounds) ⌝ }
     requires { ⌜ n ≤ 255 ⌝ }
-    ensures { λ r. ⌜ SureDepth (now (depths .entry)) n depth r ⌝ }
+    ensures { λ r. ⌜ SureDepth (now (bounds .entry)) n depth r ⌝ }
 {
-    if depths[0] == 0 {
+    if bounds[0] == 0 {
         return depth;
     }
     if depth % 16 != 1 {
         return depth;
     }
-    let own = common_depth(depths, n);
+    let own = common_depth(bounds, n);
     if own > depth {
         return own;
     }
@@ -101,14 +101,14 @@ pub fn sure_depth(depths: &[usize], n: usize, depth: usize) -> usize
 }
 
 // How deep all rows are after a pass before which n rows were so deep. Where a row came late the others keep their depth from then on, each its own.
-pub fn depth_after(depths: &mut [usize], n: usize, rows: usize, before: usize) -> usize
-    requires { ⌜ DepthsRoom (now depths) ⌝ }
+pub fn depth_after(bounds: &mut [usize], n: usize, rows: usize, before: usize) -> usize
+    requires { ⌜ BoundsRoom (now bounds) ⌝ }
     requires { ⌜ n ≤ 255 ⌝ }
-    ensures { λ r. ⌜ DepthAfter (now (depths .entry)) (now (depths .exit)) n rows before r ⌝ }
+    ensures { λ r. ⌜ DepthAfter (now (bounds .entry)) (now (bounds .exit)) n rows before r ⌝ }
 {
     if rows > n {
         if before > 15 {
-            level(depths, n, before);
+            level(bounds, n, before);
         }
         return 0;
     }

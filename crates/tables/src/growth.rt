@@ -1,17 +1,19 @@
 // New rows.
 ghost use mathlib.Core.Path.{_≡_};
-ghost use Prim.Native.Nat.{_<_};
+ghost use Prim.Native.Nat.{_<_, _≤_};
 ghost use Rattle.model.specs.Sheet.{Covered};
 ghost use Rattle.sheet_bytes.specs.Decode.{decode};
 ghost use Rattle.sheet_bytes.specs.Three.{configMeant};
-ghost use Rattle.tables.specs.Arrays.{CellsRoom, HomesRoom, FlagsRoom, DepthsRoom};
+ghost use Rattle.tables.specs.Arrays.{CellsRoom, HomesRoom, FlagsRoom, BoundsRoom};
 ghost use Rattle.tables.specs.Marks.{RowRaised};
 ghost use Rattle.tables.specs.Sources.{Begun};
 ghost use Rattle.tables.specs.Meaning.{Ready, newCells, newHomes};
+ghost use Rattle.tables.specs.Growth.{RowFor, RowsWith};
 use crate::marks::raise_row;
 use crate::rows::put_home;
 use crate::rows::put_ranges;
 use crate::rows::put_values;
+use crate::search::find;
 use crate::sources::begin_row;
 use sheet_bytes::Config;
 use sheet_bytes::Shape;
@@ -25,7 +27,7 @@ pub fn append(
     cells: &mut [i64],
     homes: &mut [u8],
     flags: &mut [u8],
-    depths: &mut [usize],
+    bounds: &mut [usize],
     n: usize,
     x: Config,
 )
@@ -34,12 +36,12 @@ pub fn append(
     requires { ⌜ CellsRoom (now cells) ⌝ }
     requires { ⌜ HomesRoom (now homes) ⌝ }
     requires { ⌜ FlagsRoom (now flags) ⌝ }
-    requires { ⌜ DepthsRoom (now depths) ⌝ }
+    requires { ⌜ BoundsRoom (now bounds) ⌝ }
     requires { ⌜ n < 255 ⌝ }
     ensures { λ _. ⌜ now (cells .exit) ≡ newCells (shape .counters) (now (s .entry)) (now (cells .entry)) n x ⌝ }
     ensures { λ _. ⌜ now (homes .exit) ≡ newHomes (shape .counters) (now (s .entry)) (now (homes .entry)) n x ⌝ }
     ensures { λ _. ⌜ RowRaised (now (flags .entry)) (now (flags .exit)) n ⌝ }
-    ensures { λ _. ⌜ Begun (now (depths .entry)) (now (depths .exit)) n ⌝ }
+    ensures { λ _. ⌜ Begun (now (bounds .entry)) (now (bounds .exit)) n ⌝ }
 {
     let region = region_of(s, shape, x);
     let b = box_at(s, shape, region);
@@ -47,5 +49,47 @@ pub fn append(
     put_ranges(cells, n, b.ranges);
     put_home(homes, n, region as u8, x.state);
     raise_row(flags, n);
-    begin_row(depths, n);
+    begin_row(bounds, n);
+}
+
+// The row for a configuration: one below n that has it (the row `last` is asked first), else a new one, with the number n; 255 where there are 255 rows
+// and none has it.
+pub fn row_for(
+    s: &[u8],
+    shape: Shape,
+    cells: &mut [i64],
+    homes: &mut [u8],
+    flags: &mut [u8],
+    bounds: &mut [usize],
+    n: usize,
+    x: Config,
+    last: usize,
+) -> usize
+    requires { ⌜ Ready (now s) shape ⌝ }
+    requires { ⌜ Covered (decode (now s)) (configMeant (shape .counters) x) ⌝ }
+    requires { ⌜ (1 ≤ shape .counters) × (shape .counters ≤ 3) ⌝ }
+    requires { ⌜ CellsRoom (now cells) ⌝ }
+    requires { ⌜ HomesRoom (now homes) ⌝ }
+    requires { ⌜ FlagsRoom (now flags) ⌝ }
+    requires { ⌜ BoundsRoom (now bounds) ⌝ }
+    requires { ⌜ n ≤ 255 ⌝ }
+    ensures { λ r. ⌜ RowFor (shape .counters) (now (s .entry)) (now (cells .entry)) (now (homes .entry)) (now (flags .entry)) (now (bounds .entry)) n x (now (cells .exit)) (now (homes .exit)) (now (flags .exit)) (now (bounds .exit)) r ⌝ }
+{
+    let j = find(cells, homes, shape.counters, x, n, last);
+    if j < n {
+        return j;
+    }
+    if n == 255 {
+        return 255;
+    }
+    append(s, shape, cells, homes, flags, bounds, n, x);
+    n
+}
+
+// The number of rows with row j among them, where there were n.
+pub fn rows_with(n: usize, j: usize) -> usize
+    requires { ⌜ j < 255 ⌝ }
+    ensures { λ r. ⌜ RowsWith n j r ⌝ }
+{
+    if j < n { n } else { j + 1 }
 }

@@ -106,7 +106,7 @@ same-length-7 : tie.Need-same-length-7
 same-length-7 c = c .before .before .before .flags .given
 
 same-length-8 : tie.Need-same-length-8
-same-length-8 c = c .before .depths .given
+same-length-8 c = c .before .bounds .given
 
 returns-3 : tie.Need-returns-3
 returns-3 c = c .before .before .before .before .before .before .before .before .before .lead .ensures

@@ -9,10 +9,10 @@ use Rattle.minimize.proofs.steps.step.Reads as step-reads
 use Rattle.tables.proofs.depths.deepen.Reads as deepen-reads
 
 abbrev Inv-loop : tie.InvT-loop
-Inv-loop s shape cells₀ homes₀ targets₀ flags₀ depths₀ n i a₀ a-end cells homes targets flags depths a = (a ≤ a-end) × Turning s shape cells₀ homes₀ targets₀ flags₀ depths₀ n cells homes targets flags depths i a n
+Inv-loop s shape cells₀ homes₀ targets₀ flags₀ bounds₀ n i a₀ a-end cells homes targets flags bounds a = (a ≤ a-end) × Turning s shape cells₀ homes₀ targets₀ flags₀ bounds₀ n cells homes targets flags bounds i a n
 
 abbrev μ-loop : tie.MeasureT-loop
-μ-loop s shape cells₀ homes₀ targets₀ flags₀ depths₀ n i a₀ a-end cells homes targets flags depths a = a-end - a
+μ-loop s shape cells₀ homes₀ targets₀ flags₀ bounds₀ n i a₀ a-end cells homes targets flags bounds a = a-end - a
 
 loop-holds : tie.Need-loop-holds Inv-loop μ-loop
 loop-holds c = (omega arith, turning-begin (c .before .before .before .before .before .pre .1 .0))
@@ -54,7 +54,7 @@ same-length-5 : tie.Need-same-length-5 Inv-loop μ-loop
 same-length-5 c =
     let S = c .before .before .before .before .before .before .before .before .before .before .before .before .before .before .before .before .before .before .before .before .before .before .before .pre .1 .0 in
     let (x, T) = c .before .before .before .before .before .before .before .before .before .before .before .before .before .before .before .before .before .loop .inv in
-    c .before .before .depths .given ∙ T .state .depths-room ∙ sym (S .depths-room)
+    c .before .before .bounds .given ∙ T .state .bounds-room ∙ sym (S .bounds-room)
 
 returns : tie.Need-returns Inv-loop μ-loop
 returns c =
@@ -93,7 +93,7 @@ deepen-requires c κs =
     let (x, T) = c .before .before .before .loop .inv in
     let Q = T .state in
     let few = Q .working .few in
-    (Q .targets-room, (Q .depths-room, (actions-few R, omega arith)))
+    (Q .targets-room, (Q .bounds-room, (actions-few R, omega arith)))
 
 same-length-6 : tie.Need-same-length-6 Inv-loop μ-loop
 same-length-6 c =
@@ -123,7 +123,7 @@ same-length-10 : tie.Need-same-length-10 Inv-loop μ-loop
 same-length-10 c =
     let S = c .before .before .before .before .before .before .before .before .before .before .before .before .pre .1 .0 in
     let (x, T) = c .before .before .before .before .before .before .loop .inv in
-    c .before .depths2 .given ∙ T .state .depths-room ∙ sym (S .depths-room)
+    c .before .bounds2 .given ∙ T .state .bounds-room ∙ sym (S .bounds-room)
 
 returns-2 : tie.Need-returns-2 Inv-loop μ-loop
 returns-2 c =
@@ -132,7 +132,7 @@ returns-2 c =
     let S = start .pre .1 .0 in
     let hi = start .pre .1 .1 in
     let (x, T) = c .before .before .before .before .before .before .loop .inv in
-    turned R T (omega arith) (c .before .before .deepen .last .1 .0) S hi refl (c .before .depths2 .given) (c .before .before .deepen .ensures)
+    turned R T (omega arith) (c .before .before .deepen .last .1 .0) S hi refl (c .before .bounds2 .given) (c .before .before .deepen .ensures)
 
 pub turn-spec : {M : Type 1} → statement M
 turn-spec =

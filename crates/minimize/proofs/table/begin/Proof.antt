@@ -38,8 +38,8 @@ returns c =
     let (rc, (rh, (rt, (rf, rd)))) = start .pre .1 in
     let x = c .before .before .before .before .before .before .before .before .start-of in
     let g = c .before .before .before .before .before .before .before .append in
-    started R (x .result) (start .args .cells .now) (start .args .homes .now) (start .args .targets .now) (start .args .flags .now) (start .args .depths .now) (g .last .1 .1 .0) (g .last .1 .1 .1 .0)
-    (g .last .1 .1 .1 .1 .0) (g .last .1 .1 .1 .1 .1 .0) rc rh rt (c .before .before .before .flags .given ∙ rf) (c .before .depths .given ∙ rd) (x .ensures) (g .ensures .0) (g .ensures .1 .0) (g .ensures .1 .1 .0) (g .ensures .1 .1 .1)
+    started R (x .result) (start .args .cells .now) (start .args .homes .now) (start .args .targets .now) (start .args .flags .now) (start .args .bounds .now) (g .last .1 .1 .0) (g .last .1 .1 .1 .0)
+    (g .last .1 .1 .1 .1 .0) (g .last .1 .1 .1 .1 .1 .0) rc rh rt (c .before .before .before .flags .given ∙ rf) (c .before .bounds .given ∙ rd) (x .ensures) (g .ensures .0) (g .ensures .1 .0) (g .ensures .1 .1 .0) (g .ensures .1 .1 .1)
 
 pub begin-spec : {M : Type 1} → statement M
 begin-spec =

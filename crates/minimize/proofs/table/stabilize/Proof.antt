@@ -13,10 +13,10 @@ use Rattle.tables.proofs.depths.sure_depth.Reads as sure-depth-reads
 use Rattle.tables.proofs.marks.last_raised.Reads as last-raised-reads
 
 abbrev Inv-loop : tie.InvT-loop
-Inv-loop s shape cells₀ homes₀ targets₀ flags₀ depths₀ m n₀ depth₀ before₀ cells homes targets flags depths n depth before = Sweeping s shape cells homes targets flags depths n m depth before
+Inv-loop s shape cells₀ homes₀ targets₀ flags₀ bounds₀ m n₀ depth₀ before₀ cells homes targets flags bounds n depth before = Sweeping s shape cells homes targets flags bounds n m depth before
 
 abbrev μ-loop : tie.MeasureT-loop
-μ-loop s shape cells₀ homes₀ targets₀ flags₀ depths₀ m n₀ depth₀ before₀ cells homes targets flags depths n depth before = measureIn shape cells homes flags n
+μ-loop s shape cells₀ homes₀ targets₀ flags₀ bounds₀ m n₀ depth₀ before₀ cells homes targets flags bounds n depth before = measureIn shape cells homes flags n
 
 loop-holds : tie.Need-loop-holds Inv-loop μ-loop
 loop-holds c =
@@ -63,7 +63,7 @@ same-length-5 : tie.Need-same-length-5 Inv-loop μ-loop
 same-length-5 c =
     let S = c .before .before .before .before .before .before .before .before .before .pre .1 .0 in
     let Q = c .before .before .before .loop .inv in
-    Q .state .depths-room ∙ sym (S .depths-room)
+    Q .state .bounds-room ∙ sym (S .bounds-room)
 
 returns : tie.Need-returns Inv-loop μ-loop
 returns c =
@@ -81,7 +81,7 @@ exact-depth-requires c κs =
     let S = start .pre .1 .0 in
     let (small, G) = start .pre .1 .1 in
     let Q = c .before .before .before .loop .inv in
-    (counters-few R, Q .state .working .few, small)
+    omega (arith, counters-few R, Q .state .working .few, small)
 
 same-length-6 : tie.Need-same-length-6 Inv-loop μ-loop
 same-length-6 c =
@@ -111,7 +111,7 @@ same-length-10 : tie.Need-same-length-10 Inv-loop μ-loop
 same-length-10 c =
     let S = c .before .before .before .before .before .before .before .before .before .before .before .pre .1 .0 in
     let Q = c .before .before .before .before .before .loop .inv in
-    Q .state .depths-room ∙ sym (S .depths-room)
+    Q .state .bounds-room ∙ sym (S .bounds-room)
 
 returns-2 : tie.Need-returns-2 Inv-loop μ-loop
 returns-2 c =
@@ -131,7 +131,7 @@ sure-depth-requires c κs =
     let S = start .pre .1 .0 in
     let (small, G) = start .pre .1 .1 in
     let Q = c .before .before .before .before .before .before .loop .inv in
-    (Q .state .depths-room, Q .state .working .few)
+    (Q .state .bounds-room, Q .state .working .few)
 
 sweep-requires : tie.Need-sweep-requires Inv-loop μ-loop
 sweep-requires c κs =
@@ -172,7 +172,7 @@ same-length-15 : tie.Need-same-length-15 Inv-loop μ-loop
 same-length-15 c =
     let S = c .before .before .before .before .before .before .before .before .before .before .before .before .before .before .before .before .before .before .before .before .before .before .before .before .before .before .before .before .before .pre .1 .0 in
     let Q = c .before .before .before .before .before .before .before .before .before .before .before .before .before .before .before .before .before .before .before .before .before .before .before .loop .inv in
-    c .before .before .depths .given ∙ Q .state .depths-room ∙ sym (S .depths-room)
+    c .before .before .bounds .given ∙ Q .state .bounds-room ∙ sym (S .bounds-room)
 
 returns-3 : tie.Need-returns-3 Inv-loop μ-loop
 returns-3 c = let l = c .if3 .taken in stable-many l (c .before .before .before .before .before .before .before .before .before .before .sweep .ensures .many l)
@@ -205,7 +205,7 @@ same-length-20 : tie.Need-same-length-20 Inv-loop μ-loop
 same-length-20 c =
     let S = c .before .before .before .before .before .before .before .before .before .before .before .before .before .before .before .before .before .before .before .before .before .before .before .before .before .before .before .before .before .before .before .pre .1 .0 in
     let Q = c .before .before .before .before .before .before .before .before .before .before .before .before .before .before .before .before .before .before .before .before .before .before .before .before .before .loop .inv in
-    c .before .before .before .before .depths .given ∙ Q .state .depths-room ∙ sym (S .depths-room)
+    c .before .before .before .before .bounds .given ∙ Q .state .bounds-room ∙ sym (S .bounds-room)
 
 returns-4 : tie.Need-returns-4 Inv-loop μ-loop
 returns-4 c =
@@ -227,7 +227,7 @@ depth-after-requires c κs =
     let Q = c .before .before .before .before .before .before .before .before .before .before .before .before .before .before .before .before .before .before .before .before .before .before .before .before .before .loop .inv in
     let W = c .before .before .before .before .before .before .before .before .before .before .before .before .sweep .ensures in
     let D = sweeping-sure R Q (c .before .before .before .before .before .before .before .before .before .before .before .before .before .before .before .before .before .before .sure-depth .ensures) in
-    (W .state (c .before .before .if3 .left) .depths-room, Q .state .working .few)
+    (W .state (c .before .before .if3 .left) .bounds-room, Q .state .working .few)
 
 loop-less : tie.Need-loop-less Inv-loop μ-loop
 loop-less c =

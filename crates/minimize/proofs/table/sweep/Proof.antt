@@ -11,18 +11,18 @@ use Rattle.minimize.proofs.steps.turn.Reads as turn-reads
 use Rattle.tables.proofs.marks.any_raised.Reads as any-raised-reads
 
 abbrev Inv-loop : tie.InvT-loop
-Inv-loop s shape cells₀ homes₀ targets₀ flags₀ depths₀ n last k₀ cells homes targets flags depths k = (k ≤ last + 1) × Passing s shape cells₀ homes₀ flags₀ n cells homes targets flags depths k
+Inv-loop s shape cells₀ homes₀ targets₀ flags₀ bounds₀ n last k₀ cells homes targets flags bounds k = (k ≤ last + 1) × Passing s shape cells₀ homes₀ flags₀ n cells homes targets flags bounds k
 
 abbrev μ-loop : tie.MeasureT-loop
-μ-loop s shape cells₀ homes₀ targets₀ flags₀ depths₀ n last k₀ cells homes targets flags depths k = k
+μ-loop s shape cells₀ homes₀ targets₀ flags₀ bounds₀ n last k₀ cells homes targets flags bounds k = k
 
-slice-write-depths : tie.Need-slice-write-depths Inv-loop μ-loop
-slice-write-depths c =
+slice-write-bounds : tie.Need-slice-write-bounds Inv-loop μ-loop
+slice-write-bounds c =
     let start = c .before .before .before .before .before in
     let R = start .pre .0 in
     let S = start .pre .1 .0 in
     let (hl, down) = start .pre .1 .1 in
-    omega (arith, S .depths-room)
+    omega (arith, S .bounds-room)
 
 add-k : tie.Need-add-k Inv-loop μ-loop
 add-k c =
@@ -41,7 +41,7 @@ loop-holds c =
     (omega arith, pass-begin R S down)
 
 slice-read-if1 : tie.Need-slice-read-if1 Inv-loop μ-loop
-slice-read-if1 c = let (hk, P) = c .before .loop .inv in omega (arith, P .state .depths-room)
+slice-read-if1 c = let (hk, P) = c .before .loop .inv in omega (arith, P .state .bounds-room)
 
 sub-k : tie.Need-sub-k Inv-loop μ-loop
 sub-k c = let t = c .if1 .taken in omega (arith, t)
@@ -96,7 +96,7 @@ same-length-5 : tie.Need-same-length-5 Inv-loop μ-loop
 same-length-5 c =
     let S = c .before .before .before .before .before .before .before .before .before .before .before .before .before .before .before .before .before .before .before .before .before .before .before .before .before .before .before .pre .1 .0 in
     let (hk, P) = c .before .before .before .before .before .before .before .before .before .before .before .before .before .before .before .before .before .before .before .before .before .loop .inv in
-    c .before .before .depths .given ∙ P .state .depths-room ∙ sym (S .depths-room)
+    c .before .before .bounds .given ∙ P .state .bounds-room ∙ sym (S .bounds-room)
 
 returns : tie.Need-returns Inv-loop μ-loop
 returns c =
@@ -137,11 +137,11 @@ loop-again-2 c =
     let t = c .before .before .before .if1 .taken in
     (omega (arith, t, hk), pass-down R (l .k - 1) P (omega (arith, t)) (omega (arith, t, hl, hk)) (c .before .any-raised .ensures .down (c .if2 .left)))
 
-slice-read-depths : tie.Need-slice-read-depths Inv-loop μ-loop
-slice-read-depths c = let (hk, P) = c .before .before .before .loop .inv in omega (arith, P .state .depths-room)
+slice-read-bounds : tie.Need-slice-read-bounds Inv-loop μ-loop
+slice-read-bounds c = let (hk, P) = c .before .before .before .loop .inv in omega (arith, P .state .bounds-room)
 
-slice-write-depths-2 : tie.Need-slice-write-depths-2 Inv-loop μ-loop
-slice-write-depths-2 c = let (hk, P) = c .before .before .before .loop .inv in omega (arith, P .state .depths-room)
+slice-write-bounds-2 : tie.Need-slice-write-bounds-2 Inv-loop μ-loop
+slice-write-bounds-2 c = let (hk, P) = c .before .before .before .loop .inv in omega (arith, P .state .bounds-room)
 
 same-length-6 : tie.Need-same-length-6 Inv-loop μ-loop
 same-length-6 c =
@@ -171,7 +171,7 @@ same-length-10 : tie.Need-same-length-10 Inv-loop μ-loop
 same-length-10 c =
     let S = c .before .before .before .before .before .before .before .before .before .pre .1 .0 in
     let (hk, P) = c .before .before .before .loop .inv in
-    length-set (c .before .before .before .loop .depths) 510 (freshIn (c .before .before .before .loop .depths)) ∙ P .state .depths-room ∙ sym (S .depths-room)
+    length-set (c .before .before .before .loop .bounds) 510 (freshIn (c .before .before .before .loop .bounds)) ∙ P .state .bounds-room ∙ sym (S .bounds-room)
 
 returns-2 : tie.Need-returns-2 Inv-loop μ-loop
 returns-2 c =
@@ -187,7 +187,7 @@ sweep-spec =
     (tie.spec
     Inv-loop
     μ-loop
-    slice-write-depths
+    slice-write-bounds
     add-k
     loop-holds
     slice-read-if1
@@ -204,8 +204,8 @@ sweep-spec =
     loop-again
     loop-less-2
     loop-again-2
-    slice-read-depths
-    slice-write-depths-2
+    slice-read-bounds
+    slice-write-bounds-2
     same-length-6
     same-length-7
     same-length-8

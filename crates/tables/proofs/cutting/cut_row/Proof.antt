@@ -1,6 +1,5 @@
 use mathlib.Core.Path.{sym, subst}
-use Rattle.sheet_bytes.specs.Bounds.{RangesWithin}
-use Rattle.tables.specs.Cutting.{cut-kept, cut-changed}
+use Rattle.tables.specs.Cutting.{Cuttable, cut-kept, cut-changed}
 use borrow.Author.Needs.{needs}
 use Rattle.tables.proofs.cutting.cut_row.Statement.{statement}
 use Rattle.tables.proofs.cutting.cut_row.Tie as tie
@@ -11,10 +10,10 @@ ranges-in-requires c κs = search needs
 ranges-in-requires-2 : tie.Need-ranges-in-requires-2
 ranges-in-requires-2 c κs = search needs
 
-cut-by-all-requires : tie.Need-cut-by-all-requires
-cut-by-all-requires c κs =
+cut-by-rules-requires : tie.Need-cut-by-rules-requires
+cut-by-rules-requires c κs =
     let start = c .before .before .before .before in
-    (start .pre .1 .1 .0, subst (RangesWithin 1000000) (sym (c .ranges-in2 .ensures)) (start .pre .1 .1 .1))
+    subst (Cuttable (start .args .counters) (start .args .rules)) (sym (c .ranges-in2 .ensures)) (start .pre .1 .1)
 
 same-ranges-requires : tie.Need-same-ranges-requires
 same-ranges-requires c κs = search needs
@@ -27,7 +26,7 @@ returns c =
     let start = c .before .before .before .before .before .before .before in
     let old = c .before .before .before .before .before .ranges-in in
     let wanted = c .before .before .before .ranges-in2 in
-    let cut = c .before .before .cut-by-all in
+    let cut = c .before .before .cut-by-rules in
     cut-kept (start .args .rules) (start .args .cells .now) (start .args .i) (start .args .j) (old .result) (wanted .result) (cut .result) (old .ensures) (wanted .ensures) (cut .ensures)
     (c .before .same-ranges .ensures) (c .if1 .taken)
 
@@ -43,7 +42,7 @@ returns-2 c =
     let start = at .before .before .before .before .before .before .before in
     let old = at .before .before .before .before .before .ranges-in in
     let wanted = at .before .before .before .ranges-in2 in
-    let cut = at .before .before .cut-by-all in
+    let cut = at .before .before .cut-by-rules in
     cut-changed (start .args .rules) (start .args .cells .now) (start .args .i) (start .args .j) (old .result) (wanted .result) (cut .result) (old .ensures) (wanted .ensures) (cut .ensures)
     (c .before .put-ranges .last .0) (at .before .same-ranges .ensures) (at .if1 .left) (c .before .put-ranges .ensures)
 
@@ -53,7 +52,7 @@ cut-row-spec =
     (tie.spec
     ranges-in-requires
     ranges-in-requires-2
-    cut-by-all-requires
+    cut-by-rules-requires
     same-ranges-requires
     same-length
     returns

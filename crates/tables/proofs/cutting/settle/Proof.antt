@@ -42,7 +42,7 @@ lower-requires : tie.Need-lower-requires
 lower-requires c κs = search needs
 
 cut-row-requires : tie.Need-cut-row-requires
-cut-row-requires c κs = let start = c .before .before .before .before .before .before .before .before in (start .pre .0, ((omega (arith, start .pre .1 .1 .1 .1 .0), omega (arith, start .pre .1 .1 .1 .1 .0)), (start .pre .1 .1 .1 .1 .1 .0, start .pre .1 .1 .1 .1 .1 .1)))
+cut-row-requires c κs = let start = c .before .before .before .before .before .before .before .before in (start .pre .0, ((omega (arith, start .pre .1 .1 .1 .1 .0), omega (arith, start .pre .1 .1 .1 .1 .0)), start .pre .1 .1 .1 .1 .1))
 
 same-length : tie.Need-same-length
 same-length c = search needs
@@ -126,7 +126,7 @@ returns-3 c =
     let k = c .before .before .before .before .before .before .before .before .before .before .before .before .cut-row .ensures .changed (not-false _ (c .before .before .before .before .before .before .before .before .before .before .if1 .left)) in (
       refl,
       settled-raised (omega (arith, start .pre .1 .1 .1 .1 .0)) (omega (arith, start .pre .1 .1 .1 .1 .0)) (k .1) (k .0) (c .before .before .before .before .before .before .before .before .before .before .before .before .before .before .before .before .lower .ensures) refl (c .before .before .before .before .before .before .before .lower2 .ensures) (c .before .before .before .lower3 .ensures)
-          (raised-nobody _ (a .i) _ (a .n) _ (a .actions) (c .if2 .left)),
+          (raised-nobody _ (a .i) _ (a .n) _ (a .shape .actions) (c .if2 .left)),
     )
 
 pub settle-spec : {M : Type 1} → statement M

@@ -6,10 +6,10 @@ use Rattle.tables.proofs.depths.common_depth.Tie as tie
 use Rattle.tables.proofs.depths.shallower.Reads as shallower-reads
 
 abbrev Inv-loop : tie.InvT-loop
-Inv-loop depths n low₀ k₀ low k = (k ≤ n) × AtLeast depths k low
+Inv-loop bounds n low₀ k₀ low k = (k ≤ n) × AtLeast bounds k low
 
 abbrev μ-loop : tie.MeasureT-loop
-μ-loop depths n low₀ k₀ low k = n - k
+μ-loop bounds n low₀ k₀ low k = n - k
 
 loop-holds : tie.Need-loop-holds Inv-loop μ-loop
 loop-holds c = (omega arith, λ j h. absurd (omega arith))
@@ -28,7 +28,7 @@ loop-again c =
     let start = c .before .before .before .before in
     let at = c .before .before .loop in
     let r = c .shallower in
-    (omega arith, least-more (start .args .depths .now) (at .low) (at .k) (r .result) (omega arith) (at .inv .1) (r .ensures .0) (r .ensures .1))
+    (omega arith, least-more (start .args .bounds .now) (at .low) (at .k) (r .result) (omega arith) (at .inv .1) (r .ensures .0) (r .ensures .1))
 
 returns : tie.Need-returns Inv-loop μ-loop
 returns c = λ j h. c .before .loop .inv .1 j (omega arith)

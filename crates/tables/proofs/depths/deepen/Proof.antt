@@ -31,14 +31,14 @@ mul-if3 c = search needs
 slice-read-if3 : tie.Need-slice-read-if3
 slice-read-if3 c = search needs
 
-add-depths : tie.Need-add-depths
-add-depths c = search needs
+add-bounds : tie.Need-add-bounds
+add-bounds c = search needs
 
-mul-depths : tie.Need-mul-depths
-mul-depths c = search needs
+mul-bounds : tie.Need-mul-bounds
+mul-bounds c = search needs
 
-slice-write-depths : tie.Need-slice-write-depths
-slice-write-depths c = search needs
+slice-write-bounds : tie.Need-slice-write-bounds
+slice-write-bounds c = search needs
 
 same-length : tie.Need-same-length
 same-length c = search needs
@@ -64,9 +64,9 @@ deepen-spec =
     reached-depth-requires
     mul-if3
     slice-read-if3
-    add-depths
-    mul-depths
-    slice-write-depths
+    add-bounds
+    mul-bounds
+    slice-write-bounds
     same-length
     returns-3
     same-length-2

@@ -18,7 +18,7 @@ returns : tie.Need-returns
 returns c = anew (c .before .before .before .before .before .if1 .taken) (c .before .before .level .ensures)
 
 returns-2 : tie.Need-returns-2
-returns-2 c = let start = c .before .before .before .args in anew (c .before .if1 .taken) (levelled-none (start .depths .now) (start .n) (start .before))
+returns-2 c = let start = c .before .before .before .args in anew (c .before .if1 .taken) (levelled-none (start .bounds .now) (start .n) (start .before))
 
 returns-3 : tie.Need-returns-3
 returns-3 c = deeper (c .before .before .before .args .before) (c .before .if1 .left) refl (omega arith)

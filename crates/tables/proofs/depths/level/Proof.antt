@@ -6,13 +6,13 @@ use Rattle.tables.proofs.depths.level.Statement.{statement}
 use Rattle.tables.proofs.depths.level.Tie as tie
 
 abbrev Inv-loop : tie.InvT-loop
-Inv-loop depths₀ n depth k₀ depths k = (k ≤ n) × Levelled depths₀ depths n depth
+Inv-loop bounds₀ n depth k₀ bounds k = (k ≤ n) × Levelled bounds₀ bounds n depth
 
 abbrev μ-loop : tie.MeasureT-loop
-μ-loop depths₀ n depth k₀ depths k = n - k
+μ-loop bounds₀ n depth k₀ bounds k = n - k
 
 loop-holds : tie.Need-loop-holds Inv-loop μ-loop
-loop-holds c = let a = c .args in (omega arith, levelled-none (a .depths .now) (a .n) (a .depth))
+loop-holds c = let a = c .args in (omega arith, levelled-none (a .bounds .now) (a .n) (a .depth))
 
 mul-old : tie.Need-mul-old Inv-loop μ-loop
 mul-old c = omega arith
@@ -20,11 +20,11 @@ mul-old c = omega arith
 slice-read-old : tie.Need-slice-read-old Inv-loop μ-loop
 slice-read-old c = omega (arith, c .before .before .loop .inv .1 .same-length)
 
-mul-depths : tie.Need-mul-depths Inv-loop μ-loop
-mul-depths c = omega arith
+mul-bounds : tie.Need-mul-bounds Inv-loop μ-loop
+mul-bounds c = omega arith
 
-slice-write-depths : tie.Need-slice-write-depths Inv-loop μ-loop
-slice-write-depths c = omega (arith, c .before .before .before .loop .inv .1 .same-length)
+slice-write-bounds : tie.Need-slice-write-bounds Inv-loop μ-loop
+slice-write-bounds c = omega (arith, c .before .before .before .loop .inv .1 .same-length)
 
 add-k : tie.Need-add-k Inv-loop μ-loop
 add-k c = omega arith
@@ -52,8 +52,8 @@ level-spec =
     loop-holds
     mul-old
     slice-read-old
-    mul-depths
-    slice-write-depths
+    mul-bounds
+    slice-write-bounds
     add-k
     loop-less
     loop-again

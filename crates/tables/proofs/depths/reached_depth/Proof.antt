@@ -7,10 +7,10 @@ use Rattle.tables.proofs.depths.reached_depth.Tie as tie
 use Rattle.tables.proofs.depths.shallower.Reads as shallower-reads
 
 abbrev Inv-loop : tie.InvT-loop
-Inv-loop targets depths actions i low₀ a₀ low a = (a ≤ actions) × (low ≤ 65534) × DeepBelow targets depths i low a
+Inv-loop targets bounds actions i low₀ a₀ low a = (a ≤ actions) × (low ≤ 65534) × DeepBelow targets bounds i low a
 
 abbrev μ-loop : tie.MeasureT-loop
-μ-loop targets depths actions i low₀ a₀ low a = actions - a
+μ-loop targets bounds actions i low₀ a₀ low a = actions - a
 
 loop-holds : tie.Need-loop-holds Inv-loop μ-loop
 loop-holds c = (omega arith, omega arith, λ b h. absurd (omega arith))
@@ -42,7 +42,7 @@ loop-again c =
     let at = c .before .before .before .loop in
     let r = c .shallower in
     let l = r .ensures .0 in
-    (omega arith, omega arith, below-more (start .targets .now) (start .depths .now) (start .i) (at .low) (at .a) (r .result) (at .inv .2) l (r .ensures .1))
+    (omega arith, omega arith, below-more (start .targets .now) (start .bounds .now) (start .i) (at .low) (at .a) (r .result) (at .inv .2) l (r .ensures .1))
 
 returns : tie.Need-returns Inv-loop μ-loop
 returns c = (c .before .loop .inv .1, λ b h. c .before .loop .inv .2 b (omega arith))

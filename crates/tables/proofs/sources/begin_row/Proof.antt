@@ -12,20 +12,20 @@ use Rattle.tables.proofs.sources.begin_row.Statement.{statement}
 use Rattle.tables.proofs.sources.begin_row.Tie as tie
 use Rattle.tables.proofs.sources.lower.Reads as lower-reads
 
-mul-depths : tie.Need-mul-depths
-mul-depths c = search needs
+mul-bounds : tie.Need-mul-bounds
+mul-bounds c = search needs
 
-slice-write-depths : tie.Need-slice-write-depths
-slice-write-depths c = search needs
+slice-write-bounds : tie.Need-slice-write-bounds
+slice-write-bounds c = search needs
 
-add-depths : tie.Need-add-depths
-add-depths c = search needs
+add-bounds : tie.Need-add-bounds
+add-bounds c = search needs
 
-mul-depths-2 : tie.Need-mul-depths-2
-mul-depths-2 c = search needs
+mul-bounds-2 : tie.Need-mul-bounds-2
+mul-bounds-2 c = search needs
 
-slice-write-depths-2 : tie.Need-slice-write-depths-2
-slice-write-depths-2 c = let start = c .before in omega (arith, start .pre .0, length-set (start .args .depths .now) (start .args .n) 0)
+slice-write-bounds-2 : tie.Need-slice-write-bounds-2
+slice-write-bounds-2 c = let start = c .before in omega (arith, start .pre .0, length-set (start .args .bounds .now) (start .args .n) 0)
 
 lower-requires : tie.Need-lower-requires
 lower-requires c κs = search needs
@@ -33,7 +33,7 @@ lower-requires c κs = search needs
 same-length : tie.Need-same-length
 same-length c =
     let a = c .before .before .before .before .before .args in
-    c .before .depths .given ∙ length-set (set (a .depths .now) (a .n) 0) (255 + a .n) 255 ∙ length-set (a .depths .now) (a .n) 0
+    c .before .bounds .given ∙ length-set (set (a .bounds .now) (a .n) 0) (255 + a .n) 255 ∙ length-set (a .bounds .now) (a .n) 0
 
 returns : tie.Need-returns
 returns c = let start = c .before .before .before .before .before in begun (start .args .n) (start .pre .1) (start .pre .0) (c .before .before .lower .ensures)
@@ -42,11 +42,11 @@ pub begin-row-spec : {M : Type 1} → statement M
 begin-row-spec =
     tie.close
     (tie.spec
-    mul-depths
-    slice-write-depths
-    add-depths
-    mul-depths-2
-    slice-write-depths-2
+    mul-bounds
+    slice-write-bounds
+    add-bounds
+    mul-bounds-2
+    slice-write-bounds-2
     lower-requires
     same-length
     returns)

@@ -168,7 +168,7 @@ unfolding cutThree contains
 zero-cut {rule} {w} b e f = ap₂ (λ (r : Rule) (q : Range). cutThree r q b) e f
 
 module _ (r : Rules) (w b : Ranges) where
-  one-cut : PaddedRules 1 r → PaddedRanges 1 w → cutsThree r w b ≡ cutThree (r .first) (w .first) b
+  pub one-cut : PaddedRules 1 r → PaddedRanges 1 w → cutsThree r w b ≡ cutThree (r .first) (w .first) b
   unfolding cutsThree
   one-cut P Q =
       zero-cut (cutThree (r .second) (w .second) (cutThree (r .first) (w .first) b)) (P .third-zero (omega arith)) (Q .third-zero (omega arith))
