@@ -1,4 +1,4 @@
-// New rows.
+// New rows, and the row for a configuration.
 ghost use mathlib.Core.Path.{_≡_};
 ghost use Prim.Native.Nat.{_<_, _≤_};
 ghost use Rattle.model.specs.Sheet.{Covered};
@@ -20,7 +20,7 @@ use sheet_bytes::Shape;
 use sheet_bytes::fields::box_at;
 use sheet_bytes::space::region_of;
 
-// Stores the configuration as row n, with the box of its region, raises its flags, and begins its depth.
+// Stores the configuration as row n, with the box of its region, raises its flags, and begins its bounds.
 pub fn append(
     s: &[u8],
     shape: Shape,
