@@ -14,7 +14,6 @@ use sheet_bytes::Ranges;
 use sheet_bytes::Rules;
 use sheet_bytes::Shape;
 use sheet_bytes::cutting::cut_by;
-use sheet_bytes::cutting::cut_by_all;
 
 pub fn same_range(a: Range, b: Range) -> bool
     ensures { λ r. ⌜ Same a b r ⌝ }
@@ -40,16 +39,21 @@ pub fn same_ranges(a: Ranges, b: Ranges) -> bool
     same_range(a.third, b.third)
 }
 
-// The old values within b that the rules take into the wanted ranges. Where the sheet has one counter, its rule is all there is to do.
+// The old values within b that the rules take into the wanted ranges. Where the sheet has one counter, its rule is all there is to do. These are the steps of
+// `sheet_bytes::cutting::cut_by_all` once more: called from here alone they are compiled in place, where the refinement spends its time.
 pub fn cut_by_rules(counters: usize, rules: Rules, wanted: Ranges, b: Ranges) -> Ranges
     requires { ⌜ Cuttable counters rules wanted ⌝ }
     ensures { λ r. ⌜ r ≡ cutsThree rules wanted b ⌝ }
 {
+    let first = rules.first;
+    let one = cut_by(first, wanted.first, b);
     if counters == 1 {
-        let only = rules.first;
-        return cut_by(only, wanted.first, b);
+        return one;
     }
-    cut_by_all(rules, wanted, b)
+    let second = rules.second;
+    let third = rules.third;
+    let two = cut_by(second, wanted.second, one);
+    cut_by(third, wanted.third, two)
 }
 
 // Cuts the ranges of row i to what the rules lead into those of row j; whether that changed them.
