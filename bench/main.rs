@@ -23,7 +23,7 @@ mod sheets;
 
 use sheets::Refusal;
 use std::process::Command;
-use std::time::Duration;
+use std::time::{Duration, Instant};
 
 /// Listing is left out above so many configurations.
 const MOST_CONFIGURATIONS: u64 = 20_000_000;
@@ -123,14 +123,21 @@ fn calls(version: Version, sheet: &[u8], out: &mut Outcome, count: u32) -> Optio
     Some(now() - begin)
 }
 
-/// The least time of a call, over one second of batches of at least a millisecond. A call that takes longer than REPEATED is not repeated.
+/// The least time of a call, over a second of batches of at least a millisecond. A call that takes longer than REPEATED is not repeated. A
+/// batch of less than half the middle time is left out: the clock of a virtual processor may stand still.
 fn time(version: Version, sheet: &[u8], out: &mut Outcome, first: Duration) -> Option<Duration> {
-    let (begin, mut least) = (now(), first);
-    let batch = 1 + (Duration::from_millis(1).as_nanos() / first.as_nanos()) as u32;
-    while least < REPEATED && now() - begin < Duration::from_secs(1) {
-        least = least.min(calls(version, sheet, out, batch)? / batch);
+    if first > REPEATED {
+        return Some(first);
     }
-    Some(least)
+    let begin = Instant::now();
+    let mut each = vec![first, calls(version, sheet, out, 1)?];
+    let batch = 1 + (Duration::from_millis(1).as_nanos() / begin.elapsed().as_nanos().max(1)) as u32;
+    while begin.elapsed() < Duration::from_secs(1) {
+        each.push(calls(version, sheet, out, batch)? / batch);
+    }
+    each.sort();
+    let middle = each[each.len() / 2];
+    each.into_iter().find(|time| *time >= middle / 2)
 }
 
 /// The instructions of one call, counted by valgrind within the version's function; nothing where valgrind fails.

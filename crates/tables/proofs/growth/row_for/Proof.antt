@@ -1,63 +1,50 @@
-use borrow.Author.Needs.{needs}
+use mathlib.Core.Path.{refl}
 use Rattle.tables.specs.Growth.{row-there, row-new, row-none, nobody, room-left}
 use Rattle.tables.proofs.growth.row_for.Statement.{statement}
 use Rattle.tables.proofs.growth.row_for.Tie as tie
-use Rattle.tables.proofs.growth.row_for.Reads as reads
-use Rattle.tables.proofs.growth.row_for.Lts as lts
 use Rattle.tables.proofs.growth.append.Reads as append-reads
 use Rattle.tables.proofs.search.find.Reads as find-reads
 
--- src/growth.rt:78:9
 find-requires : tie.Need-find-requires
-find-requires c κs = search needs
+find-requires c κs =
+    let (R, (covered, (counters, (cells, (homes, (flags, (bounds, few))))))) = c .before .before .before .before .before .before .pre in
+    (cells, (homes, (counters, few)))
 
--- src/growth.rt:80:9
 same-length : tie.Need-same-length
-same-length c = search needs
+same-length c = refl
 
--- src/growth.rt:80:9
 same-length-2 : tie.Need-same-length-2
-same-length-2 c = search needs
+same-length-2 c = refl
 
--- src/growth.rt:80:9
 returns : tie.Need-returns
 returns c = let l = c .if1 .taken in row-there _ l (c .before .find .ensures .inside l)
 
--- src/growth.rt:83:9
 same-length-3 : tie.Need-same-length-3
-same-length-3 c = search needs
+same-length-3 c = refl
 
--- src/growth.rt:83:9
 same-length-4 : tie.Need-same-length-4
-same-length-4 c = search needs
+same-length-4 c = refl
 
--- src/growth.rt:83:9
 returns-2 : tie.Need-returns-2
 returns-2 c = row-none (c .if2 .taken) (nobody (c .before .before .find .ensures) (c .before .if1 .left))
 
--- src/growth.rt:85:5
 append-requires : tie.Need-append-requires
 append-requires c κs =
     let (R, (covered, (counters, (cells, (homes, (flags, (bounds, few))))))) = c .before .before .before .before .before .before .before .before .before .before .before .before .before .pre in
     (R, (covered, (cells, (homes, (flags, (bounds, room-left few (c .before .before .before .before .if2 .left)))))))
 
--- src/growth.rt:57:1
 same-length-5 : tie.Need-same-length-5
-same-length-5 c = search needs
+same-length-5 c = c .before .before .before .before .before .before .cells .given
 
--- src/growth.rt:57:1
 same-length-6 : tie.Need-same-length-6
-same-length-6 c = search needs
+same-length-6 c = c .before .before .before .before .before .homes .given
 
--- src/growth.rt:57:1
 same-length-7 : tie.Need-same-length-7
-same-length-7 c = search needs
+same-length-7 c = c .before .before .before .flags .given
 
--- src/growth.rt:57:1
 same-length-8 : tie.Need-same-length-8
-same-length-8 c = search needs
+same-length-8 c = c .before .bounds .given
 
--- src/growth.rt:57:1
 returns-3 : tie.Need-returns-3
 returns-3 c =
     let (R, (covered, (counters, (cells, (homes, (flags, (bounds, few))))))) = c .before .before .before .before .before .before .before .before .before .before .before .before .before .before .before .before .before .before .before .before .before .pre in
