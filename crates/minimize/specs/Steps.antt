@@ -211,8 +211,8 @@ module _ {s : List ℕ} {shape : Shape} (R : Ready s shape) {c : List ℤ} {h t 
   values-known = subst (λ (z : Config). ValuesWithin 1000000 (z .values)) (sym ey) (values-bounded R S i hi)
 
   -- no row has the landing
-  nowhere : NoneHolds (shape .counters) c h x n → (k : ℕ) → k < n → holdsIn (shape .counters) c h (landThree m (configIn c h i)) k ≡ false
-  nowhere N k q = ap (λ (z : Config). holdsIn (shape .counters) c h z k) (sym next-is) ∙ N k q
+  landing-in-none : NoneHolds (shape .counters) c h x n → (k : ℕ) → k < n → holdsIn (shape .counters) c h (landThree m (configIn c h i)) k ≡ false
+  landing-in-none N k q = ap (λ (z : Config). holdsIn (shape .counters) c h z k) (sym next-is) ∙ N k q
 
   -- it is in row j
   placed-there : (j : ℕ) → j < n → holdsIn (shape .counters) c h x j ≡ true → Placed s shape c h t f d n i a m c h f d j n
@@ -242,17 +242,17 @@ module _ {s : List ℕ} {shape : Shape} (R : Ready s shape) {c : List ℤ} {h t 
     where
       base : Appended s shape c h t f d n i a m (newCells (shape .counters) s c n (landThree m (configIn c h i))) (newHomes (shape .counters) s h n (landThree m (configIn c h i))) f′ d′
       base =
-          let (Q, p) = state-append R S i a hi O (nowhere N) hn f′ d′ lf U ld B in
+          let (Q, p) = state-append R S i a hi O (landing-in-none N) hn f′ d′ lf U ld B in
           record {
             state = Q;
-            opens = open-new R S i a hi O (nowhere N) hn;
-            lands = landed-new R S i a hi O (nowhere N) hn;
+            opens = open-new R S i a hi O (landing-in-none N) hn;
+            lands = landed-new R S i a hi O (landing-in-none N) hn;
             less =
                 subst
                 (λ (k : ℕ). potentialIn shape (newCells (shape .counters) s c n (landThree m (configIn c h i))) (newHomes (shape .counters) s h n (landThree m (configIn c h i))) k < potentialIn shape c h n)
                 (sym (add-one n)) p;
             same = λ k b. new-other R c h n (landThree m (configIn c h i)) k (λ e. omega arith);
-            deep = state-deep R S i a hi O (nowhere N);
+            deep = state-deep R S i a hi O (landing-in-none N);
           }
 
   -- the row for the landing, among r rows
@@ -267,7 +267,7 @@ module _ {s : List ℕ} {shape : Shape} (R : Ready s shape) {c : List ℤ} {h t 
   pub led-many : {c′ c″ : List ℤ} {h′ f′ d′ h″ t″ f″ d″ : List ℕ} {j : ℕ} → RowFor (shape .counters) s c h f d n x c′ h′ f′ d′ j → j ≡ 255 → Outcome s shape c h t f d n c″ h″ t″ f″ d″ i a 256
   led-many (row-there j l u) e = let few = S .working .few in absurd (omega arith)
   led-many (row-new l N ec eh U B) e = absurd (omega arith)
-  led-many (row-none q N) e = too-many (omega arith) (state-many R S i a hi O (nowhere N) q)
+  led-many (row-none q N) e = too-many (omega arith) (state-many R S i a hi O (landing-in-none N) q)
 
 -- What the actions of row i below a do to the flags.
 pub record BoundedTo (shape : Shape) (f d : List ℕ) (n : ℕ) (f′ d′ : List ℕ) (i a : ℕ) : Type 0 where

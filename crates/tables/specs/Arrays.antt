@@ -1,7 +1,7 @@
 -- The refinement's table in flat arrays: for each row nine cells (three values, then three ranges, each low and high) and two homes (the number of the region
 -- of its representative, and its state); for each action a target and a flag of each of the 255 rows; and lower bounds, first how deep each row is, then where
 -- the sources of each begin, and two of the rows with a flag up.
-use mathlib.Core.Path.{_≡_, refl, sym, ap, _∙_}
+use mathlib.Core.Path.{_≡_, _∙_}
 use mathlib.Core.List.{List}
 use Prim.Native.Nat.{ℕ, _+_, _*_, _-_, _≤_, _<_}
 use native.Mathlib.Omega.{arith}

@@ -36,9 +36,3 @@ row-few few (row-none e N) q = absurd (q refl)
 pub record RowsWith (n j r : ℕ) : Type 0 where
   pub old : j < n → r ≡ n
   pub one-more : n ≤ j → r ≡ j + 1
-
-pub rows-old : (n j : ℕ) → j < n → RowsWith n j n
-rows-old n j l = record { old = λ h. omega arith; one-more = λ h. omega arith }
-
-pub rows-more : (n j : ℕ) → n ≤ j → RowsWith n j (j + 1)
-rows-more n j l = record { old = λ h. omega arith; one-more = λ h. omega arith }

@@ -1,7 +1,6 @@
 use native.Mathlib.Omega.{arith}
 use Prim.Native.Nat.{_+_, _*_, _-_, _≤_}
 use Rattle.tables.specs.Depths.{DeepBelow, below-more}
-use borrow.Author.Needs.{needs}
 use Rattle.tables.proofs.depths.reached_depth.Statement.{statement}
 use Rattle.tables.proofs.depths.reached_depth.Tie as tie
 use Rattle.tables.proofs.depths.shallower.Reads as shallower-reads

@@ -1,6 +1,5 @@
-use native.Mathlib.Omega.{arith}
 use borrow.Author.Needs.{needs}
-use Rattle.tables.specs.Sources.{lowered-none, lowered-to}
+use Rattle.tables.specs.Sources.{lowered-to}
 use borrow.Author.Needs.{needs}
 use Rattle.tables.proofs.sources.lower.Statement.{statement}
 use Rattle.tables.proofs.sources.lower.Tie as tie
