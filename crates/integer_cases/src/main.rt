@@ -1,8 +1,11 @@
 // Runs the integer layer at the cases of document 01 and at extremes. Its output is stored.
 ghost use mathlib.Core.Path.{_≡_};
+ghost use Prim.Native.Nat.{_≤_};
 ghost use lib.IntN.{pos};
 ghost use Rattle.integers.specs.Range.{Within, RangeWithin};
 use integers::Range;
+use integers::division::lower_end;
+use integers::division::upper_end;
 
 // z, or 0 where z is not within n of zero.
 fn near(z: i64, n: u32) -> i64
@@ -40,6 +43,7 @@ fn put_range(r: Range) {
     text::put_signed(r.high);
 }
 
+// The quotient rounded down and up: the ends of the inverse into n alone.
 fn show_division(n: i64, f: i64) {
     let n = near(n, 1000000000);
     let f = factor(f);
@@ -47,9 +51,9 @@ fn show_division(n: i64, f: i64) {
     text::put(b" / ");
     text::put_signed(f);
     text::put(b": down ");
-    text::put_signed(integers::division::divide_down(n, f));
+    text::put_signed(upper_end(f, 0, n, n));
     text::put(b" up ");
-    text::put_signed(integers::division::divide_up(n, f));
+    text::put_signed(lower_end(f, 0, n, n));
     text::put(b"\n");
 }
 
@@ -70,6 +74,101 @@ fn show_inverse(f: i64, b: i64, low: i64, high: i64) {
         text::put(b" vacant");
     }
     text::put(b"\n");
+}
+
+// The new value f * x + b, by a product.
+fn carried(f: i64, b: i64, x: i64) -> i64 {
+    let f = near(f, 100);
+    let b = near(b, 200000000);
+    let x = near(x, 1000000000);
+    f * x + b
+}
+
+// The whole number beside x, below it or above it.
+fn beside(x: i64, above: bool) -> i64 {
+    let x = near(x, 1000000000);
+    if above { x + 1 } else { x - 1 }
+}
+
+// Whether x meets a side of c ≤ f * x + b ≤ d, the left one or the right one, and the number beside it does not.
+fn is_last(f: i64, b: i64, x: i64, above: bool, left: bool, bound: i64) -> bool {
+    let inside = carried(f, b, x);
+    let outside = carried(f, b, beside(x, above));
+    if left {
+        bound <= inside && outside < bound
+    } else {
+        inside <= bound && bound < outside
+    }
+}
+
+fn show_end(f: i64, b: i64, x: i64, above: bool, left: bool, bound: i64) {
+    text::put_signed(x);
+    text::put(b" gives ");
+    text::put_signed(carried(f, b, x));
+    text::put(b", the next ");
+    text::put_signed(carried(f, b, beside(x, above)));
+    if !is_last(f, b, x, above, left, bound) {
+        text::put(b" WRONG");
+    }
+}
+
+// Both ends of the inverse into one value, each with the new value there and at the next number outward.
+fn show_ends(f: i64, b: i64, bound: i64) {
+    let f = factor(f);
+    let b = near(b, 1000000000);
+    let bound = near(bound, 1000000000);
+    let low = lower_end(f, b, bound, bound);
+    let high = upper_end(f, b, bound, bound);
+    text::put(b"factor ");
+    text::put_signed(f);
+    text::put(b" offset ");
+    text::put_signed(b);
+    text::put(b" bound ");
+    text::put_signed(bound);
+    text::put(b": low ");
+    show_end(f, b, low, false, f > 0, bound);
+    text::put(b"; high ");
+    show_end(f, b, high, true, f < 0, bound);
+    text::put(b"\n");
+}
+
+// 1 where both ends at one dividend are right.
+fn right_at(f: i64, n: i64) -> u64
+    ensures { λ k. ⌜ k ≤ 1 ⌝ }
+{
+    let f = factor(f);
+    let n = near(n, 1000000000);
+    let low = lower_end(f, 0, n, n);
+    let high = upper_end(f, 0, n, n);
+    if is_last(f, 0, low, false, f > 0, n) && is_last(f, 0, high, true, f < 0, n) {
+        1
+    } else {
+        0
+    }
+}
+
+// At how many dividends from -41 to 41: every remainder on both sides of zero, and two multiples or more with their neighbours.
+fn right_by(f: i64) -> u64
+    ensures { λ k. ⌜ k ≤ 83 ⌝ }
+{
+    let mut right: u64 = 0;
+    let end: u32 = 83;
+    for i in 0..end {
+        right = right + right_at(f, i as i64 - 41);
+    }
+    right
+}
+
+// By the factors to 20 of either sign.
+fn right_by_all() -> u64 {
+    let mut right: u64 = 0;
+    let end: u32 = 20;
+    for i in 0..end {
+        let f = i as i64 + 1;
+        right = right + right_by(f);
+        right = right + right_by(carried(-1, 0, f));
+    }
+    right
 }
 
 fn show_common(a: Range, b: Range) {
@@ -140,6 +239,47 @@ fn inverses() {
     show_inverse(5, 0, 4, 3);
 }
 
+// The ends at a multiple of the factor and beside it.
+fn show_around(f: i64, x: i64) {
+    let multiple = carried(f, 0, x);
+    show_ends(f, 0, beside(multiple, false));
+    show_ends(f, 0, multiple);
+    show_ends(f, 0, beside(multiple, true));
+}
+
+// The four cases of both ends, with dividends on both sides of zero.
+fn cases(f: i64) {
+    show_around(f, -2);
+    show_around(f, -1);
+    show_around(f, 0);
+    show_around(f, 1);
+    show_around(f, 2);
+}
+
+// The four cases of both ends at the extreme bounds and offsets.
+fn extremes(f: i64) {
+    show_ends(f, -200000000, -1000000);
+    show_ends(f, -200000000, 1000000);
+    show_ends(f, 200000000, -1000000);
+    show_ends(f, 200000000, 1000000);
+}
+
+fn ends() {
+    cases(3);
+    cases(-3);
+    cases(100);
+    cases(-100);
+    extremes(1);
+    extremes(-1);
+    extremes(7);
+    extremes(-7);
+    extremes(100);
+    extremes(-100);
+    text::put(b"factors -20..-1 and 1..20, dividends -41..41: right at ");
+    text::put_number(right_by_all());
+    text::put(b"\n");
+}
+
 fn ranges() {
     show_common(range(0, 7), range(5, 20));
     show_common(range(0, 7), range(8, 20));
@@ -162,6 +302,7 @@ fn readers() {
 fn main() {
     divisions();
     inverses();
+    ends();
     ranges();
     readers();
 }

@@ -4,7 +4,7 @@ use Prim.Native.Nat.{ℕ, zero, suc, _+_, _*_, _/_, _≤_, _<_}
 use native.Mathlib.Omega.{arith}
 use native.Mathlib.Nat.{le-div-iff-mul-le, div-lt-iff-lt-mul, div-le-self, zero-lt-suc}
 use lib.IntN.{ℤ, pos, negsuc, negℤ, _*ℤ_}
-use lib.Signed.{_≤ℤ_}
+use lib.Signed.{_≤ℤ_, _<ℤ_}
 use Rattle.integers.specs.Order.{up, dn, ints, up-neg, dn-neg, mul-up, mul-dn, mul-neg, neg-le, le-neg}
 
 -- n divided by m, not 0, rounded down
@@ -41,13 +41,15 @@ floorBy-size (pos n) m = omega (arith, div-le-self n m)
 floorBy-size (negsuc n) m = omega (arith, div-le-self n m)
 
 -- the same for a divisor of either sign
-pub floor-pos : (n : ℤ) (m : ℕ) (x : ℤ) → zero < m → (x ≤ℤ floor n (pos m)) ↔ ((pos m *ℤ x) ≤ℤ n)
+pub floor-pos : (n f x : ℤ) → pos 0 <ℤ f → (x ≤ℤ floor n f) ↔ ((f *ℤ x) ≤ℤ n)
 unfolding floor
-floor-pos n m x h = floorBy-le n m x h
+floor-pos n (pos m) x h = floorBy-le n m x (omega ints)
+floor-pos n (negsuc m) x h = absurd (h .lt)
 
-pub floor-neg : (n : ℤ) (m : ℕ) (x : ℤ) → (x ≤ℤ floor n (negsuc m)) ↔ (n ≤ℤ (negsuc m *ℤ x))
+pub floor-neg : (n f x : ℤ) → f <ℤ pos 0 → (x ≤ℤ floor n f) ↔ (n ≤ℤ (f *ℤ x))
 unfolding floor
-floor-neg n m x =
+floor-neg n (pos m) x h = absurd (omega ints)
+floor-neg n (negsuc m) x h =
     let e = floorBy-le (negℤ n) (suc m) x (zero-lt-suc m) in
     let a = mul-up (pos (suc m)) x in
     let b = mul-dn (pos (suc m)) x in
@@ -57,22 +59,22 @@ floor-neg n m x =
     let v = dn-neg n in
     (λ k. let g = e .0 k in omega ints, λ k. e .1 (omega ints))
 
-pub ceiling-pos : (n : ℤ) (m : ℕ) (x : ℤ) → zero < m → (ceiling n (pos m) ≤ℤ x) ↔ (n ≤ℤ (pos m *ℤ x))
+pub ceiling-pos : (n f x : ℤ) → pos 0 <ℤ f → (ceiling n f ≤ℤ x) ↔ (n ≤ℤ (f *ℤ x))
 unfolding ceiling
-ceiling-pos n m x h =
-    let e = floor-pos (negℤ n) m (negℤ x) h in
-    let t = neg-le (floor (negℤ n) (pos m)) x in
-    let g = rw (mul-neg (pos m) x) at e in
-    let k = le-neg (pos m *ℤ x) n in
+ceiling-pos n f x h =
+    let e = floor-pos (negℤ n) f (negℤ x) h in
+    let t = neg-le (floor (negℤ n) f) x in
+    let g = rw (mul-neg f x) at e in
+    let k = le-neg (f *ℤ x) n in
     (λ c. k .0 (g .0 (t .0 c)), λ c. t .1 (g .1 (k .1 c)))
 
-pub ceiling-neg : (n : ℤ) (m : ℕ) (x : ℤ) → (ceiling n (negsuc m) ≤ℤ x) ↔ ((negsuc m *ℤ x) ≤ℤ n)
+pub ceiling-neg : (n f x : ℤ) → f <ℤ pos 0 → (ceiling n f ≤ℤ x) ↔ ((f *ℤ x) ≤ℤ n)
 unfolding ceiling
-ceiling-neg n m x =
-    let e = floor-neg (negℤ n) m (negℤ x) in
-    let t = neg-le (floor (negℤ n) (negsuc m)) x in
-    let g = rw (mul-neg (negsuc m) x) at e in
-    let k = le-neg n (negsuc m *ℤ x) in
+ceiling-neg n f x h =
+    let e = floor-neg (negℤ n) f (negℤ x) h in
+    let t = neg-le (floor (negℤ n) f) x in
+    let g = rw (mul-neg f x) at e in
+    let k = le-neg n (f *ℤ x) in
     (λ c. k .0 (g .0 (t .0 c)), λ c. t .1 (g .1 (k .1 c)))
 
 -- a quotient is no further from zero than its dividend

@@ -6,3 +6,5 @@ pub mod LittleEndian
 pub mod Bits
 pub mod Machine
 pub mod Quotient
+pub mod Cases
+pub mod Dividend

@@ -1,7 +1,7 @@
 -- What signed machine numbers of 64 bits give back, and the laws by which code over ranges meets its definitions.
 use mathlib.Core.Path.{_≡_, refl, sym}
 use mathlib.Core.Bool.{true, false}
-use Prim.Native.Nat.{_+_, _^_, _≤_, _<_}
+use Prim.Native.Nat.{ℕ, _+_, _^_, _≤_, _<_}
 use native.Mathlib.Omega.{arith}
 use lib.Dec.{T}
 use lib.IntN.{ℤ, pos, negsuc, natAbs, _+ℤ_, _-ℤ_}
@@ -10,12 +10,26 @@ use mir.Syntax.{w64}
 use mir.Val.{SFits, toZ, ofZ}
 use mir.ValLaws.{toZ-ofZ}
 use Rattle.integers.specs.declared.Range.{Range}
-use Rattle.integers.specs.Order.{up, dn, ints, fits-out, ltZ-false, add-parts, sub-parts}
-use Rattle.integers.specs.Range.{smaller, larger, contains, vacant, meet, size, size-none, T-true, RangeWithin}
+use Rattle.integers.specs.Order.{up, dn, ints, fits-out, fits-small, ltZ-false, add-parts, sub-parts}
+use Rattle.integers.specs.Range.{smaller, larger, contains, vacant, meet, size, size-none, T-true, Within, within-size, RangeWithin}
 
--- a number that fits is read back from its bits
-pub back : (z : ℤ) → mag z < 2 ^ 63 → toZ w64 (ofZ w64 z) ≡ z
+-- a number as it is read back from its bits
+abbrev pub back64 : ℤ → ℤ
+back64 z = toZ w64 (ofZ w64 z)
+
+-- it is the number itself where that fits
+pub back : (z : ℤ) → mag z < 2 ^ 63 → back64 z ≡ z
 back z h = toZ-ofZ w64 z (record { sfits = h })
+
+-- a number within a bound fits, and what is read back from its bits is as bounded, being the number itself
+pub within-fits : {k : ℕ} {z : ℤ} → Within k z → k < 2 ^ 63 → SFits w64 z
+within-fits {k} {z} w h = fits-small z (omega (arith, within-size w))
+
+pub within-read : {k : ℕ} {z : ℤ} → k < 2 ^ 63 → Within k z → back64 z ≡ z
+within-read {k} {z} h w = toZ-ofZ w64 z (within-fits w h)
+
+pub within-back : {k : ℕ} {z : ℤ} → k < 2 ^ 63 → Within k z → Within k (back64 z)
+within-back {k} {z} h w = rw (within-read {k = k} {z = z} h w) w
 
 pub smaller-first : (a b : ℤ) → leZ a b ≡ true → a ≡ smaller a b
 unfolding smaller

@@ -2,14 +2,15 @@
 use mathlib.Core.Path.{_≡_, refl}
 use mathlib.Core.Logic.{_↔_}
 use mathlib.Core.Bool.{Bool, true, false, cond, _&&_}
-use Prim.Native.Nat.{ℕ, suc, _+_, _≤_, _<_}
+use Prim.Native.Nat.{ℕ, suc, _+_, _*_, _≤_, _<_}
 use native.Mathlib.Omega.{arith}
+use native.Mathlib.Nat.{mul-le-mul-left, mul-le-mul-right}
 use lib.Dec.{T}
-use lib.IntN.{ℤ, pos, negsuc, negℤ, _+ℤ_, _-ℤ_}
+use lib.IntN.{ℤ, pos, negsuc, negℤ, _+ℤ_, _-ℤ_, _*ℤ_}
 use lib.Signed.{leZ, ltZ, _≤ℤ_}
 use mir.Facts.{and-yes, yes-and}
 use Rattle.integers.specs.declared.Range.{Range}
-use Rattle.integers.specs.Order.{up, dn, ints, le-in, le-out, ltZ-true, add-parts, sub-parts, up-neg, dn-neg}
+use Rattle.integers.specs.Order.{up, dn, ints, le-in, le-out, ltZ-true, add-parts, sub-parts, up-neg, dn-neg, add-size, sub-size, mul-size}
 
 -- the smaller of two
 unfoldable pub smaller : ℤ → ℤ → ℤ
@@ -53,6 +54,22 @@ within-out n z h =
 
 pub within-wider : {k : ℕ} {z : ℤ} (n : ℕ) → k ≤ n → Within k z → Within n z
 within-wider {k} {z} n h w = within-out n z (omega (arith, within-size w))
+
+pub within-neg : {k : ℕ} {z : ℤ} → Within k z → Within k (negℤ z)
+within-neg {k} {z} w = within-out k (negℤ z) (omega (arith, within-size w, up-neg z, dn-neg z))
+
+-- sums, differences and products are within the sum and the product of the bounds
+pub within-add : {j k : ℕ} {a b : ℤ} → Within j a → Within k b → Within (j + k) (a +ℤ b)
+within-add {j} {k} {a} {b} p q = within-out (j + k) (a +ℤ b) (omega (arith, add-size a b, within-size p, within-size q))
+
+pub within-sub : {j k : ℕ} {a b : ℤ} → Within j a → Within k b → Within (j + k) (a -ℤ b)
+within-sub {j} {k} {a} {b} p q = within-out (j + k) (a -ℤ b) (omega (arith, sub-size a b, within-size p, within-size q))
+
+pub within-mul : {j k : ℕ} {a b : ℤ} → Within j a → Within k b → Within (j * k) (a *ℤ b)
+within-mul {j} {k} {a} {b} p q =
+    let m = mul-le-mul-left (up a + dn a) (within-size q) in
+    let n = mul-le-mul-right k (within-size p) in
+    within-out (j * k) (a *ℤ b) (omega (arith, mul-size a b, m, n))
 
 pub within-zero : (n : ℕ) → Within n (pos 0)
 within-zero n = within-out n (pos 0) (omega arith)

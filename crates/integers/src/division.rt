@@ -1,59 +1,65 @@
-// Division by a factor of either sign, rounded down and rounded up, and the inverse of a carry rule.
+// The inverse of a carry rule by signed division, which rounds toward zero.
+// Its ends are the least and the greatest whole x with c ≤ f * x + b ≤ d, for a wanted range from c to d. Each end is found by four cases: the
+// factor positive or negative, the dividend n (the wanted bound less the offset) negative or not. Where toward zero is the wrong way, the dividend is
+// first moved away from zero by one less than the factor without its sign.
 ghost use mathlib.Core.Path.{_≡_};
 ghost use lib.IntN.{pos};
-ghost use lib.Signed.{_<ℤ_};
 ghost use Rattle.integers.specs.Range.{Within, RangeWithin};
-ghost use Rattle.integers.specs.Division.{floor, ceiling};
-ghost use Rattle.integers.specs.Inverse.{inverse};
-ghost use Rattle.integers.specs.Quotient.{inward};
+ghost use Rattle.integers.specs.Inverse.{inverse, LowerEnd, UpperEnd};
 use crate::Range;
 
-// n / m rounded down, for m above 0. Only a number that is not negative is ever divided.
-fn floor_by(n: i64, m: i64) -> i64
-    requires { ⌜ Within 1000000000 n ⌝ }
-    requires { ⌜ (pos 0 <ℤ m) × Within 100 m ⌝ }
-    ensures { λ r. ⌜ r ≡ floor n m ⌝ }
-{
-    if n >= 0 { n / m } else { -1 - (-1 - n) / m }
-}
-
-// n / f rounded down.
-pub fn divide_down(n: i64, f: i64) -> i64
-    requires { ⌜ Within 1000000000 n ⌝ }
+// The least whole x that meets its side of c ≤ f * x + b ≤ d.
+pub fn lower_end(f: i64, b: i64, c: i64, d: i64) -> i64
     requires { ⌜ (f ≡ pos 0 → ⊥) × Within 100 f ⌝ }
-    ensures { λ r. ⌜ r ≡ floor n f ⌝ }
+    requires { ⌜ Within 1000000000 b ⌝ }
+    requires { ⌜ Within 1000000000 c × Within 1000000000 d ⌝ }
+    ensures { λ l. ⌜ LowerEnd f b c d l ⌝ }
 {
     if f > 0 {
-        floor_by(n, f)
+        let n = c - b;
+        if n >= 0 {
+            // the least x with c ≤ f * x + b: n / f, 0 or more, rounded up, away from zero
+            (n + f - 1) / f
+        } else {
+            // the least x with c ≤ f * x + b: n / f, below 0, rounded up, toward zero
+            n / f
+        }
     } else {
-        floor_by(-n, -f)
+        let n = d - b;
+        if n >= 0 {
+            // the least x with f * x + b ≤ d: n / f, 0 or less, rounded up, toward zero
+            n / f
+        } else {
+            // the least x with f * x + b ≤ d: n / f, above 0, rounded up, away from zero
+            (n + f + 1) / f
+        }
     }
 }
 
-// n / f rounded up.
-pub fn divide_up(n: i64, f: i64) -> i64
-    requires { ⌜ Within 1000000000 n ⌝ }
+// The greatest whole x that meets its side of c ≤ f * x + b ≤ d.
+pub fn upper_end(f: i64, b: i64, c: i64, d: i64) -> i64
     requires { ⌜ (f ≡ pos 0 → ⊥) × Within 100 f ⌝ }
-    ensures { λ r. ⌜ r ≡ ceiling n f ⌝ }
-{
-    -divide_down(-n, f)
-}
-
-// The whole x with c ≤ f * x ≤ d: rounded up at one end and down at the other.
-fn rounded_inward(f: i64, c: i64, d: i64) -> Range
-    requires { ⌜ (f ≡ pos 0 → ⊥) × Within 100 f ⌝ }
+    requires { ⌜ Within 1000000000 b ⌝ }
     requires { ⌜ Within 1000000000 c × Within 1000000000 d ⌝ }
-    ensures { λ r. ⌜ r ≡ inward f c d ⌝ }
+    ensures { λ h. ⌜ UpperEnd f b c d h ⌝ }
 {
     if f > 0 {
-        Range {
-            low: divide_up(c, f),
-            high: divide_down(d, f),
+        let n = d - b;
+        if n >= 0 {
+            // the greatest x with f * x + b ≤ d: n / f, 0 or more, rounded down, toward zero
+            n / f
+        } else {
+            // the greatest x with f * x + b ≤ d: n / f, below 0, rounded down, away from zero
+            (n - f + 1) / f
         }
     } else {
-        Range {
-            low: divide_up(d, f),
-            high: divide_down(c, f),
+        let n = c - b;
+        if n >= 0 {
+            // the greatest x with c ≤ f * x + b: n / f, 0 or less, rounded down, away from zero
+            (n - f - 1) / f
+        } else {
+            // the greatest x with c ≤ f * x + b: n / f, above 0, rounded down, toward zero
+            n / f
         }
     }
 }
@@ -65,5 +71,8 @@ pub fn inverse_range(f: i64, b: i64, wanted: Range) -> Range
     requires { ⌜ RangeWithin 1000000 wanted ⌝ }
     ensures { λ r. ⌜ r ≡ inverse f b wanted ⌝ }
 {
-    rounded_inward(f, wanted.low - b, wanted.high - b)
+    Range {
+        low: lower_end(f, b, wanted.low, wanted.high),
+        high: upper_end(f, b, wanted.low, wanted.high),
+    }
 }

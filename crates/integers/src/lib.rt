@@ -1,4 +1,4 @@
-// Whole numbers: division rounded up and down, the inverse of a carry rule, ranges, little-endian numbers in bytes.
+// Whole numbers: the inverse of a carry rule by cases, ranges, little-endian numbers in bytes.
 // Internal: serves sister crates; a function may ask what its callers have made sure of.
 pub mod bytes;
 pub mod division;

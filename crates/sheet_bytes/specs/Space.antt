@@ -2,8 +2,8 @@
 use mathlib.Core.Path.{_≡_, refl, sym, ap, subst, _∙_}
 use mathlib.Core.Bool.{Bool, true, false, _&&_}
 use mathlib.Core.List.{List, [], _∷_}
-use Prim.Native.Nat.{ℕ, zero, suc, _+_, _≤_, _<_}
-use native.Mathlib.Nat.{not-suc-le-zero, le-of-suc-le-suc, zero-lt-suc, mul-le-mul-left, mul-le-mul-right}
+use Prim.Native.Nat.{ℕ, zero, suc, _≤_, _<_}
+use native.Mathlib.Nat.{not-suc-le-zero, le-of-suc-le-suc, zero-lt-suc}
 use native.Mathlib.Omega.{arith}
 use lib.Dec.{lit≤}
 use lib.ListN.{length, getD, take}
@@ -11,8 +11,8 @@ use borrow.Author.Tests.{eq-eqb, ne-eqb}
 use lib.IntN.{ℤ, pos, _*ℤ_}
 use mir.Syntax.{w64}
 use mir.Val.{SFits}
-use Rattle.integers.specs.Order.{up, dn, mul-size, add-size, fits-small}
-use Rattle.integers.specs.Range.{contains, Within, within-size, within-out, within-zero, within-wider}
+use Rattle.integers.specs.Range.{contains, Within, within-add, within-mul, within-zero, within-wider}
+use Rattle.integers.specs.Machine.{within-fits}
 use Rattle.integers.specs.Inverse.{carried}
 use Rattle.systems.specs.Lists.{length-each, getD-each}
 use Rattle.model.specs.declared.Rule.{Rule}
@@ -150,22 +150,14 @@ land-meant n m x h e = let q = meant-values n m x h e in λ i. record { state = 
 
 -- everything that applying a rule computes fits
 module _ (f b x : ℤ) (wf : Within 100 f) (wb : Within 200000000 b) (wx : Within 1000000 x) where
-  product-le : up (f *ℤ x) + dn (f *ℤ x) ≤ 100000000
-  product-le =
-      let p = within-size wf in
-      let q = within-size wx in
-      let m = mul-le-mul-left (up f + dn f) q in
-      let k = mul-le-mul-right 1000000 p in
-      omega (arith, mul-size f x, m, k)
-
   pub product-fits : SFits w64 (f *ℤ x)
-  product-fits = fits-small (f *ℤ x) (omega (arith, product-le))
-
-  pub carried-fits : SFits w64 (carried f b x)
-  carried-fits = fits-small (carried f b x) (omega (arith, product-le, add-size (f *ℤ x) b, within-size wb))
+  product-fits = within-fits (within-mul wf wx) (lit≤ tt)
 
   pub carried-within : Within 300000000 (carried f b x)
-  carried-within = within-out 300000000 (carried f b x) (omega (arith, product-le, add-size (f *ℤ x) b, within-size wb))
+  carried-within = within-add (within-mul wf wx) wb
+
+  pub carried-fits : SFits w64 (carried f b x)
+  carried-fits = within-fits carried-within (lit≤ tt)
 
 -- what a safe rule gives from values within bounds
 pub safe-within : (rule : Rule) (x : Values) → RuleSafe rule → ValuesWithin 1000000 x → Within 300000000 (applied rule (allThree x))
