@@ -102,10 +102,10 @@ module _ (f b : ℤ) where
 
 -- and so it is the lower end
 pub lower-pos : {f b c d l : ℤ} → pos 0 <ℤ f → Least (λ x. c ≤ℤ carried f b x) l → LowerEnd f b c d l
-lower-pos h p = record { positive = λ _. p; negative = λ k. absurd (omega ints) }
+lower-pos h p = record { positive = λ t. p; negative = λ t. absurd (omega ints) }
 
 pub lower-neg : {f b c d l : ℤ} → f <ℤ pos 0 → Least (λ x. carried f b x ≤ℤ d) l → LowerEnd f b c d l
-lower-neg h p = record { positive = λ k. absurd (omega ints); negative = λ k. p }
+lower-neg h p = record { positive = λ t. absurd (omega ints); negative = λ t. p }
 
 -- The upper end: in each case the greatest whole number that meets the other side.
 module _ (f b : ℤ) where

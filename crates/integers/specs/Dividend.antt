@@ -7,9 +7,8 @@ use lib.Signed.{leZ, ltZ, quotZ, _≤ℤ_, _<ℤ_}
 use mir.Syntax.{w64}
 use mir.Val.{SFits}
 use mir.ValLaws.{toZ-ofZ}
-use Rattle.integers.specs.declared.Range.{Range}
 use Rattle.integers.specs.Order.{ints}
-use Rattle.integers.specs.Range.{Within, RangeWithin, within-wider, within-add, within-sub}
+use Rattle.integers.specs.Range.{Within, within-wider, within-add, within-sub}
 use Rattle.integers.specs.Machine.{back64, within-fits, within-read, within-back}
 use Rattle.integers.specs.Quotient.{within-quot}
 use Rattle.integers.specs.Inverse.{by-sign}
@@ -71,11 +70,9 @@ pub tested-neg : {f : ℤ} → SFits w64 f → (f ≡ pos 0 → ⊥) → ltZ (po
 tested-neg {f} h n t = let e = simp (toZ-ofZ w64) at t in by-sign f n (λ k. absurd (omega ints)) (λ k. k)
 
 -- the wide range of bounds and offsets is within what the ends take, read back from bits
-pub wide-asked : {f b : ℤ} {r : Range} → (f ≡ pos 0 → ⊥) × Within 100 f → Within 200000000 b → RangeWithin 1000000 r
-    → ((back64 f ≡ pos 0 → ⊥) × Within 100 (back64 f)) × (Within 1000000000 (back64 b) × (Within 1000000000 (back64 (r .low)) × Within 1000000000 (back64 (r .high))))
-wide-asked {f} (n, wf) wb w =
-    let e = toZ-ofZ w64 f (within-fits wf (lit≤ tt)) in
-    let l = within-wider 1000000000 (lit≤ tt) (w .low-within) in
-    let h = within-wider 1000000000 (lit≤ tt) (w .high-within) in
-    let b = within-wider 1000000000 (lit≤ tt) wb in
-    ((λ z. n (sym e ∙ z), within-back (lit≤ tt) wf), (within-back (lit≤ tt) b, (within-back (lit≤ tt) l, within-back (lit≤ tt) h)))
+pub wide-asked : {f b c d : ℤ} → (f ≡ pos 0 → ⊥) × Within 100 f → Within 200000000 b → Within 1000000 c → Within 1000000 d
+    → ((back64 f ≡ pos 0 → ⊥) × Within 100 (back64 f)) × (Within 1000000000 (back64 b) × (Within 1000000000 c × Within 1000000000 d))
+wide-asked {f} (n, wf) wb wc wd =
+    let e = within-read {z = f} (lit≤ tt) wf in
+    let b = within-back (lit≤ tt) (within-wider 1000000000 (lit≤ tt) wb) in
+    ((λ z. n (sym e ∙ z), within-back (lit≤ tt) wf), (b, (within-wider 1000000000 (lit≤ tt) wc, within-wider 1000000000 (lit≤ tt) wd)))

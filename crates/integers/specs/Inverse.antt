@@ -75,25 +75,25 @@ move-high d y b = omega (le-in, le-out, arith, sub-parts d b, add-parts y b)
 
 -- Which rounded quotient bounds x, from below or from above, as which side does.
 module _ (f b : ℤ) where
-  pub lower-side-pos : (c x : ℤ) → pos 0 <ℤ f → (ceiling (c -ℤ b) f ≤ℤ x) ↔ (c ≤ℤ carried f b x)
+  lower-side-pos : (c x : ℤ) → pos 0 <ℤ f → (ceiling (c -ℤ b) f ≤ℤ x) ↔ (c ≤ℤ carried f b x)
   lower-side-pos c x h =
       let e = ceiling-pos (c -ℤ b) f x h in
       let t = move-low c (f *ℤ x) b in
       (λ k. t .0 (e .0 k), λ k. e .1 (t .1 k))
 
-  pub upper-side-pos : (d x : ℤ) → pos 0 <ℤ f → (x ≤ℤ floor (d -ℤ b) f) ↔ (carried f b x ≤ℤ d)
+  upper-side-pos : (d x : ℤ) → pos 0 <ℤ f → (x ≤ℤ floor (d -ℤ b) f) ↔ (carried f b x ≤ℤ d)
   upper-side-pos d x h =
       let e = floor-pos (d -ℤ b) f x h in
       let t = move-high d (f *ℤ x) b in
       (λ k. t .0 (e .0 k), λ k. e .1 (t .1 k))
 
-  pub lower-side-neg : (d x : ℤ) → f <ℤ pos 0 → (ceiling (d -ℤ b) f ≤ℤ x) ↔ (carried f b x ≤ℤ d)
+  lower-side-neg : (d x : ℤ) → f <ℤ pos 0 → (ceiling (d -ℤ b) f ≤ℤ x) ↔ (carried f b x ≤ℤ d)
   lower-side-neg d x h =
       let e = ceiling-neg (d -ℤ b) f x h in
       let t = move-high d (f *ℤ x) b in
       (λ k. t .0 (e .0 k), λ k. e .1 (t .1 k))
 
-  pub upper-side-neg : (c x : ℤ) → f <ℤ pos 0 → (x ≤ℤ floor (c -ℤ b) f) ↔ (c ≤ℤ carried f b x)
+  upper-side-neg : (c x : ℤ) → f <ℤ pos 0 → (x ≤ℤ floor (c -ℤ b) f) ↔ (c ≤ℤ carried f b x)
   upper-side-neg c x h =
       let e = floor-neg (c -ℤ b) f x h in
       let t = move-low c (f *ℤ x) b in

@@ -25,7 +25,7 @@ pub fn lower_end(f: i64, b: i64, c: i64, d: i64) -> i64
             n / f
         }
     } else {
-        let n = d - b;
+        let n = d - b; // a negative factor turns the order round: x is bounded from below by the right side
         if n >= 0 {
             // the least x with f * x + b ≤ d: n / f, 0 or less, rounded up, toward zero
             n / f
@@ -53,7 +53,7 @@ pub fn upper_end(f: i64, b: i64, c: i64, d: i64) -> i64
             (n - f + 1) / f
         }
     } else {
-        let n = c - b;
+        let n = c - b; // a negative factor turns the order round: x is bounded from above by the left side
         if n >= 0 {
             // the greatest x with c ≤ f * x + b: n / f, 0 or less, rounded down, away from zero
             (n - f - 1) / f

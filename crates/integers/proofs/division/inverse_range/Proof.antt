@@ -1,6 +1,10 @@
+use lib.Dec.{lit≤}
+use native.Mathlib.Omega.{arith}
 use mir.Syntax.{w64}
 use mir.Val.{SFits}
 use mir.ValLaws.{toZ-ofZ}
+use Rattle.integers.specs.Range.{within-size, within-out}
+use Rattle.integers.specs.Machine.{within-back}
 use Rattle.integers.specs.Inverse.{ends-inverse}
 use Rattle.integers.specs.Dividend.{wide-asked}
 use Rattle.integers.proofs.division.inverse_range.Statement.{statement}
@@ -9,12 +13,16 @@ use Rattle.integers.proofs.division.inverse_range.Tie as tie
 lower-end-requires : tie.Need-lower-end-requires
 lower-end-requires c κs =
     let (f, (b, w)) = c .before .before .pre in
-    wide-asked f b w
+    let l = within-size (within-back (lit≤ tt) (w .low-within)) in
+    let h = within-size (within-back (lit≤ tt) (w .high-within)) in
+    wide-asked f b (within-out 1000000 _ (omega (arith, l, h))) (within-out 1000000 _ (omega (arith, l, h)))
 
 upper-end-requires : tie.Need-upper-end-requires
 upper-end-requires c κs =
     let (f, (b, w)) = c .before .before .before .before .before .pre in
-    wide-asked f b w
+    let l = within-size (within-back (lit≤ tt) (w .low-within)) in
+    let h = within-size (within-back (lit≤ tt) (w .high-within)) in
+    wide-asked f b (within-out 1000000 _ (omega (arith, l, h))) (within-out 1000000 _ (omega (arith, l, h)))
 
 returns : tie.Need-returns
 returns c =

@@ -2,8 +2,9 @@ use mathlib.Core.Path.{sym, subst}
 use lib.Dec.{lit≤}
 use lib.IntN.{pos, negsuc, negℤ}
 use native.Mathlib.Omega.{arith}
+use Rattle.integers.specs.Order.{up-neg, dn-neg}
 use Rattle.integers.specs.Range.{within-size, within-out, within-neg}
-use Rattle.integers.specs.Machine.{within-back}
+use Rattle.integers.specs.Machine.{back64, within-back}
 use Rattle.integers.specs.Quotient.{bits-some}
 use Rattle.integers.specs.Inverse.{UpperEnd}
 use Rattle.integers.specs.Cases.{high-pos-nonneg, high-pos-neg, high-neg-nonneg, high-neg-neg, upper-pos, upper-neg}
@@ -24,20 +25,23 @@ div-result c =
 sub-result : tie.Need-sub-result
 sub-result c =
     let ((n, wf), (wb, (wc, wd))) = c .before .before .pre in
+    let f = back64 (c .before .before .args .f) in
     let w = within-size (within-back (lit≤ tt) wf) in
-    moved-fits wd wb _ (within-neg (within-back (lit≤ tt) wf))
+    moved-fits wd wb _ (within-out 100 _ (omega (arith, w, up-neg f, dn-neg f)))
 
 add-result : tie.Need-add-result
 add-result c =
     let ((n, wf), (wb, (wc, wd))) = c .before .before .pre in
+    let f = back64 (c .before .before .args .f) in
     let w = within-size (within-back (lit≤ tt) wf) in
-    twice-fits wd wb _ _ (within-neg (within-back (lit≤ tt) wf)) (within-out 100 _ (omega (arith, w)))
+    twice-fits wd wb _ _ (within-out 100 _ (omega (arith, w, up-neg f, dn-neg f))) (within-out 100 _ (omega (arith, w, up-neg f, dn-neg f)))
 
 div-result-2 : tie.Need-div-result-2
 div-result-2 c =
     let ((n, wf), (wb, (wc, wd))) = c .before .before .pre in
+    let f = back64 (c .before .before .args .f) in
     let w = within-size (within-back (lit≤ tt) wf) in
-    (bits-some _ (c .before .before .fits .f) n, moved-quotient-fits wd wb _ _ _ (within-neg (within-back (lit≤ tt) wf)) (within-out 100 _ (omega (arith, w))))
+    (bits-some _ (c .before .before .fits .f) n, moved-quotient-fits wd wb _ _ _ (within-out 100 _ (omega (arith, w, up-neg f, dn-neg f))) (within-out 100 _ (omega (arith, w, up-neg f, dn-neg f))))
 
 sub-n-2 : tie.Need-sub-n-2
 sub-n-2 c =
@@ -47,20 +51,23 @@ sub-n-2 c =
 sub-result-2 : tie.Need-sub-result-2
 sub-result-2 c =
     let ((n, wf), (wb, (wc, wd))) = c .before .before .pre in
+    let f = back64 (c .before .before .args .f) in
     let w = within-size (within-back (lit≤ tt) wf) in
-    moved-fits wc wb _ (within-neg (within-back (lit≤ tt) wf))
+    moved-fits wc wb _ (within-out 100 _ (omega (arith, w, up-neg f, dn-neg f)))
 
 sub-result-3 : tie.Need-sub-result-3
 sub-result-3 c =
     let ((n, wf), (wb, (wc, wd))) = c .before .before .pre in
+    let f = back64 (c .before .before .args .f) in
     let w = within-size (within-back (lit≤ tt) wf) in
-    twice-fits wc wb _ _ (within-neg (within-back (lit≤ tt) wf)) (within-out 100 _ (omega (arith, w)))
+    twice-fits wc wb _ _ (within-out 100 _ (omega (arith, w, up-neg f, dn-neg f))) (within-out 100 _ (omega (arith, w, up-neg f, dn-neg f)))
 
 div-result-3 : tie.Need-div-result-3
 div-result-3 c =
     let ((n, wf), (wb, (wc, wd))) = c .before .before .pre in
+    let f = back64 (c .before .before .args .f) in
     let w = within-size (within-back (lit≤ tt) wf) in
-    (bits-some _ (c .before .before .fits .f) n, moved-quotient-fits wc wb _ _ _ (within-neg (within-back (lit≤ tt) wf)) (within-out 100 _ (omega (arith, w))))
+    (bits-some _ (c .before .before .fits .f) n, moved-quotient-fits wc wb _ _ _ (within-out 100 _ (omega (arith, w, up-neg f, dn-neg f))) (within-out 100 _ (omega (arith, w, up-neg f, dn-neg f))))
 
 div-result-4 : tie.Need-div-result-4
 div-result-4 c =
