@@ -161,6 +161,10 @@ fn read_move(bytes: &[u8], at: usize, counters: usize) -> Result<Option<Move>, R
 }
 
 fn read_region(bytes: &[u8], at: usize, counters: usize, actions: usize) -> Result<Region, Refusal> {
+    let label = u16::from_le_bytes([bytes[at], bytes[at + 1]]);
+    if label == 65535 {
+        return refuse(4, at);
+    }
     let mut ranges = [ZERO; 3];
     for (v, range) in ranges[..counters].iter_mut().enumerate() {
         let place = at + 3 + 4 * v;
@@ -171,7 +175,7 @@ fn read_region(bytes: &[u8], at: usize, counters: usize, actions: usize) -> Resu
     }
     let first = at + 3 + 4 * counters;
     let moves = (0..actions).map(|a| read_move(bytes, first + a * (2 + 7 * counters), counters)).collect::<Result<_, _>>()?;
-    Ok(Region { label: u16::from_le_bytes([bytes[at], bytes[at + 1]]), state: bytes[at + 2], ranges, moves })
+    Ok(Region { label, state: bytes[at + 2], ranges, moves })
 }
 
 /// The sheet, and the size of a region record; refusals 1 to 4.

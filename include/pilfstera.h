@@ -13,7 +13,8 @@
      2      sheet, chart       a count outside its limits                                   place of the first
      3      sheet, chart, run  length differs from what the counts give; a sequence
                                above 4,096 actions                                          actual length
-     4      sheet, chart       a field with a value that is not allowed                     its place; of high, where low is above it
+     4      sheet, chart       a field with a value that is not allowed, such as the
+                               label 65,535                                                 its place; of high, where low is above it
      5      sheet              a label repeated                                             place of the later label
      6      sheet              two regions that share a configuration                       place of the later region
      7      sheet              the start is in no region                                    8, place of the start state
@@ -46,8 +47,11 @@ enum { PILFSTERA_MOST_BLOCKS = 255, PILFSTERA_MOST_ACTIONS = 8, PILFSTERA_MOST_C
 #define PILFSTERA_CHART_LENGTH(blocks, actions) (7 + (size_t)(blocks) * (2 + (size_t)(actions)))
 #define PILFSTERA_LIST_LENGTH(blocks, counters) ((size_t)(blocks) * (1 + 4 * (size_t)(counters)))
 
-/* Entries that the labels of a run need: one for the start, and one for each action. */
+/* Entries that a run writes: one for the start, and one for each action. */
 #define PILFSTERA_RUN_ROOM(actions) ((size_t)(actions) + 1)
+
+/* What a run writes in the place of a label for an action that is barred. No label is this number: as one it is refused 4. */
+enum { PILFSTERA_SKIPPED = 65535 };
 
 #ifdef __cplusplus
 extern "C" {
@@ -65,13 +69,14 @@ uint8_t pilfstera_make(const uint8_t *sheet, size_t length, uint8_t *chart, size
    accepted. */
 uint8_t pilfstera_check_chart(const uint8_t *chart, size_t length, size_t *returned);
 
-/* Runs `count` actions on a sheet or on a chart, from the start up to the first that is barred, and writes the labels read: refusals of
-   the sheet or chart, then 3, 11 and 10. `room` counts entries and must be above `count`, whatever is barred. `returned` is the number
-   of labels written, from the front; what lies behind is left as it was. `barred` is the index of the barred action, or `count` if
-   nothing was barred, and is left as it was by a refusal. */
-uint8_t pilfstera_run_sheet(const uint8_t *sheet, size_t length, const uint8_t *actions, size_t count, uint16_t *labels,
+/* Runs `count` actions on a sheet or on a chart: refusals of the sheet or chart, then 3, 11 and 10. Writes the label of the start, then an
+   entry for each action: the label where it leads, or PILFSTERA_SKIPPED where it is barred. A barred action changes nothing, and the
+   run goes on. `room` counts entries and must be above `count`. `returned` is the number of entries written, `count` + 1, from the
+   front; what lies behind is left as it was. `barred` is the index of the first barred action, or `count` if nothing was barred, and
+   is left as it was by a refusal. */
+uint8_t pilfstera_run_sheet(const uint8_t *sheet, size_t length, const uint8_t *actions, size_t count, uint16_t *entries,
                             size_t room, size_t *returned, size_t *barred);
-uint8_t pilfstera_run_chart(const uint8_t *chart, size_t length, const uint8_t *actions, size_t count, uint16_t *labels,
+uint8_t pilfstera_run_chart(const uint8_t *chart, size_t length, const uint8_t *actions, size_t count, uint16_t *entries,
                             size_t room, size_t *returned, size_t *barred);
 
 #ifdef __cplusplus

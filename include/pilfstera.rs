@@ -13,9 +13,9 @@
 //         let (mut chart, mut list) = ([0; LONGEST_CHART], [0; LONGEST_LIST]);
 //         let blocks = make(sheet, &mut chart, &mut list)?;
 //         let chart = &chart[..chart_length(blocks, chart[5] as usize)];
-//         let mut labels = [0; run_room(2)];
-//         let run = run_chart(chart, &[0, 0], &mut labels)?;
-//         println!("{blocks} blocks; actions 0, 0 read {:?}, barred: {:?}", &labels[..run.labels], run.barred);
+//         let mut entries = [0; run_room(3)];
+//         let run = run_chart(chart, &[0, 0, 0], &mut entries)?;
+//         println!("{blocks} blocks; actions 0, 0, 0 read {:?}, first barred: {:?}", &entries[..run.entries], run.barred);
 //         Ok(())
 //     }
 
@@ -63,7 +63,10 @@ mod library {
         blocks * (1 + 4 * counters)
     }
 
-    /// The entries that the labels' buffer of a run must have: one for the start, and one for each action.
+    /// What a run writes in the place of a label for an action that is barred. No label is this number: as one it is refused 4.
+    pub const SKIPPED: u16 = 65535;
+
+    /// The entries that a run writes: one for the start, and one for each action.
     pub const fn run_room(actions: usize) -> usize {
         actions + 1
     }
@@ -113,9 +116,9 @@ mod library {
     /// What a run did.
     #[derive(Clone, Copy, PartialEq, Eq, Debug)]
     pub struct Run {
-        /// How many labels were written, from the front of the buffer: that of the start, and one after each action that was not barred.
-        pub labels: usize,
-        /// The index, from 0, of the barred action at which the run ended; nothing where the whole sequence ran.
+        /// How many entries were written, from the front of the buffer: the label of the start, and one for each action.
+        pub entries: usize,
+        /// The index, from 0, of the first barred action; nothing where none was barred.
         pub barred: Option<usize>,
     }
 
@@ -137,7 +140,7 @@ mod library {
             length: usize,
             actions: *const u8,
             count: usize,
-            labels: *mut u16,
+            entries: *mut u16,
             room: usize,
             returned: *mut usize,
             barred: *mut usize,
@@ -147,7 +150,7 @@ mod library {
             length: usize,
             actions: *const u8,
             count: usize,
-            labels: *mut u16,
+            entries: *mut u16,
             room: usize,
             returned: *mut usize,
             barred: *mut usize,
@@ -173,7 +176,7 @@ mod library {
         answer(number, returned, ())
     }
 
-    fn run(function: RunFunction, bytes: &[u8], actions: &[u8], labels: &mut [u16]) -> Result<Run, Refusal> {
+    fn run(function: RunFunction, bytes: &[u8], actions: &[u8], entries: &mut [u16]) -> Result<Run, Refusal> {
         let (mut returned, mut barred) = (0, 0);
         // SAFETY: both runs take three slices by pointer and length, and two numbers of our own to write. What is written is borrowed
         // apart from all else, and they ask nothing of what the slices hold.
@@ -183,15 +186,15 @@ mod library {
                 bytes.len(),
                 actions.as_ptr(),
                 actions.len(),
-                labels.as_mut_ptr(),
-                labels.len(),
+                entries.as_mut_ptr(),
+                entries.len(),
                 &mut returned,
                 &mut barred,
             )
         };
         // an index is below the number of actions, which stands for none
         let barred = (barred < actions.len()).then_some(barred);
-        answer(number, returned, Run { labels: returned, barred })
+        answer(number, returned, Run { entries: returned, barred })
     }
 
     /// Accepts a sheet, or refuses it with 1 to 8.
@@ -225,17 +228,17 @@ mod library {
         check(pilfstera_check_chart, chart)
     }
 
-    /// Runs a sequence of actions from a sheet's start, up to the first that is barred, and writes the labels read: that of the start, then
-    /// one after each action. It refuses what [`check_sheet`] does, then a sequence above [`LONGEST_SEQUENCE`] with 3, an action that the
-    /// sheet lacks with 11, and a buffer of fewer than [`run_room`] entries with 10, whatever would be barred. Entries behind the labels
-    /// are left as they were.
-    pub fn run_sheet(sheet: &[u8], actions: &[u8], labels: &mut [u16]) -> Result<Run, Refusal> {
-        run(pilfstera_run_sheet, sheet, actions, labels)
+    /// Runs a sequence of actions from a sheet's start and writes the label there, then an entry for each action: the label where it leads,
+    /// or [`SKIPPED`] where it is barred. A barred action changes nothing, and the run goes on. It refuses what [`check_sheet`] does, then a
+    /// sequence above [`LONGEST_SEQUENCE`] with 3, an action that the sheet lacks with 11, and a buffer of fewer than [`run_room`] entries
+    /// with 10. What lies behind the entries written is left as it was.
+    pub fn run_sheet(sheet: &[u8], actions: &[u8], entries: &mut [u16]) -> Result<Run, Refusal> {
+        run(pilfstera_run_sheet, sheet, actions, entries)
     }
 
     /// Runs a sequence of actions from a chart's block 0, as [`run_sheet`] does from a sheet's start; it refuses what [`check_chart`] does,
     /// then the sequence and the buffer likewise. A sheet and its chart read the same.
-    pub fn run_chart(chart: &[u8], actions: &[u8], labels: &mut [u16]) -> Result<Run, Refusal> {
-        run(pilfstera_run_chart, chart, actions, labels)
+    pub fn run_chart(chart: &[u8], actions: &[u8], entries: &mut [u16]) -> Result<Run, Refusal> {
+        run(pilfstera_run_chart, chart, actions, entries)
     }
 }

@@ -9,10 +9,11 @@ use pilfstera::*;
 fn main() {
     let chart = [0u8; chart_length(MOST_BLOCKS, MOST_ACTIONS)];
     let list = [0u8; list_length(MOST_BLOCKS, MOST_COUNTERS)];
-    let labels = [0u16; run_room(LONGEST_SEQUENCE)];
+    let entries = [SKIPPED; run_room(LONGEST_SEQUENCE)];
     println!("{LONGEST_SHEET} {LONGEST_CHART} {LONGEST_LIST} {LONGEST_SEQUENCE}");
     println!("{MOST_BLOCKS} {MOST_ACTIONS} {MOST_COUNTERS} {MOST_REGIONS}");
-    println!("{} {} {}", chart.len(), list.len(), labels.len());
+    println!("{} {} {}", chart.len(), list.len(), entries.len());
+    println!("{}", entries[0]);
     if let Err(Refusal { number, returned }) = check_sheet(&[]) {
         println!("refused {number} at {returned}");
     }

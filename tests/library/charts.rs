@@ -1,6 +1,6 @@
 //! Charts, read straight from document 01: the chart rules, told apart pair by pair, and the reading of an action sequence.
 
-use crate::sheets::{Reading, Refusal};
+use crate::sheets::{Reading, Refusal, SKIPPED};
 
 const BARRED: u8 = 255;
 
@@ -110,7 +110,9 @@ fn told_apart(chart: &Chart) -> Vec<Vec<bool>> {
 pub fn check(bytes: &[u8]) -> Result<Chart, Refusal> {
     let chart = read(bytes)?;
     let count = chart.records.len();
-    if let Some((place, _)) = targets(&chart).find(|(_, t)| *t != BARRED && *t as usize >= count) {
+    let unfit = targets(&chart).find(|(_, t)| *t != BARRED && *t as usize >= count).map(|(place, _)| place);
+    let skipped = chart.records.iter().find(|r| r.label == SKIPPED).map(|r| r.place);
+    if let Some(place) = unfit.into_iter().chain(skipped).min() {
         return refuse(4, place);
     }
     if let Some(place) = misnumbered(&chart).into_iter().chain(unnamed(&chart)).min() {
@@ -129,15 +131,16 @@ pub fn check(bytes: &[u8]) -> Result<Chart, Refusal> {
 
 /// The reading of an action sequence from block 0 of an accepted chart.
 pub fn reading(chart: &Chart, actions: &[u8]) -> Reading {
-    let mut record = &chart.records[0];
-    let mut labels = vec![record.label];
-    for (i, a) in actions.iter().enumerate() {
-        let target = record.targets[*a as usize];
-        if target == BARRED {
-            return Reading { labels, barred: Some(i) };
+    let mut block = 0;
+    let mut entries = vec![chart.records[block].label];
+    for a in actions {
+        let target = chart.records[block].targets[*a as usize];
+        if target != BARRED {
+            block = target as usize;
         }
-        record = &chart.records[target as usize];
-        labels.push(record.label);
+        entries.push(if target == BARRED { SKIPPED } else { chart.records[block].label });
     }
-    Reading { labels, barred: None }
+    // no label is what a barred action writes, so the entries tell the first
+    let barred = entries.iter().position(|e| *e == SKIPPED).map(|i| i - 1);
+    Reading { entries, barred }
 }

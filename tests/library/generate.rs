@@ -118,10 +118,14 @@ fn open_move(rng: &mut Random, old: &Bounds, areas: &[(u8, Bounds)], loose: bool
     Some(Move { target: *target, rules })
 }
 
-/// A label that no region has yet.
+/// A label that no region has yet: any but 65,535, the last one more often.
 fn fresh_label(rng: &mut Random, regions: &[Region]) -> u16 {
     loop {
-        let label = if rng.one_in(3) { rng.next() as u16 } else { rng.below(100) as u16 };
+        let label = match rng.below(12) {
+            0 => 65534,
+            1..=4 => rng.below(65535) as u16,
+            _ => rng.below(100) as u16,
+        };
         if regions.iter().all(|r| r.label != label) {
             return label;
         }
@@ -204,7 +208,9 @@ fn places(rng: &mut Random, bytes: &[u8]) -> (usize, usize, usize) {
 /// A field with a value that is not allowed, of whatever kind the place has.
 fn spoil_field(rng: &mut Random, bytes: &mut [u8]) {
     let (at, move_at, rule_at) = places(rng, bytes);
-    if rng.one_in(4) {
+    if rng.one_in(8) {
+        bytes[at..at + 2].fill(255);
+    } else if rng.one_in(4) {
         bytes[at + 3..at + 7].copy_from_slice(&[5, 0, 4, 0]);
     } else if rng.one_in(4) {
         bytes[move_at] = rng.pick(&[2, 3, 255]);
@@ -247,12 +253,12 @@ pub fn chart(rng: &mut Random) -> Vec<u8> {
     let (actions, count) = (1 + rng.below(3), 1 + rng.below(7));
     let mut out = b"BCH\x01\x00".to_vec();
     out.extend([actions as u8, count as u8]);
-    let (labels, mut next) = (1 + rng.below(5), 1);
+    let (first, labels, mut next) = (rng.pick(&[0, 0, 0, 65531]), 1 + rng.below(5), 1);
     let masks = 1 << (actions - rng.below(2));
     let bars: Vec<usize> = (0..labels).map(|_| rng.below(masks)).collect();
     for i in 0..count {
         let label = rng.below(labels);
-        put16(&mut out, label as i64);
+        put16(&mut out, first + label as i64);
         for a in 0..actions {
             let barred = (bars[label] >> a & 1 == 1) != rng.one_in(40);
             let needed = a + 1 == actions && next == i + 1;

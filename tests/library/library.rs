@@ -17,7 +17,7 @@ pub mod raw {
         unsafe { pilfstera_check_chart(chart.as_ptr(), chart.len(), returned) }
     }
 
-    pub fn run_sheet(sheet: &[u8], actions: &[u8], labels: &mut [u16], returned: &mut usize, barred: &mut usize) -> u8 {
+    pub fn run_sheet(sheet: &[u8], actions: &[u8], entries: &mut [u16], returned: &mut usize, barred: &mut usize) -> u8 {
         // SAFETY: as above; the buffer and the two numbers are borrowed apart.
         unsafe {
             pilfstera_run_sheet(
@@ -25,15 +25,15 @@ pub mod raw {
                 sheet.len(),
                 actions.as_ptr(),
                 actions.len(),
-                labels.as_mut_ptr(),
-                labels.len(),
+                entries.as_mut_ptr(),
+                entries.len(),
                 returned,
                 barred,
             )
         }
     }
 
-    pub fn run_chart(chart: &[u8], actions: &[u8], labels: &mut [u16], returned: &mut usize, barred: &mut usize) -> u8 {
+    pub fn run_chart(chart: &[u8], actions: &[u8], entries: &mut [u16], returned: &mut usize, barred: &mut usize) -> u8 {
         // SAFETY: as above.
         unsafe {
             pilfstera_run_chart(
@@ -41,8 +41,8 @@ pub mod raw {
                 chart.len(),
                 actions.as_ptr(),
                 actions.len(),
-                labels.as_mut_ptr(),
-                labels.len(),
+                entries.as_mut_ptr(),
+                entries.len(),
                 returned,
                 barred,
             )

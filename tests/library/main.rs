@@ -12,7 +12,7 @@ mod wrapper;
 
 use library::raw;
 use random::Random;
-use sheets::{Made, Reading, Refusal, Sheet};
+use sheets::{Made, Reading, Refusal, Sheet, SKIPPED};
 use std::collections::BTreeMap;
 use std::process::exit;
 
@@ -44,6 +44,17 @@ fn told(answer: Result<usize, Refusal>) -> (u8, usize) {
 /// A refusal of the safe functions, to be compared with one of the independent implementation.
 fn plain(refusal: library::Refusal) -> Refusal {
     Refusal { number: refusal.number, returned: refusal.returned }
+}
+
+/// What a run met, in a few words.
+fn course(reading: &Reading) -> &'static str {
+    let Some(first) = reading.barred else { return "nothing barred" };
+    let skipped = reading.entries.iter().filter(|e| **e == SKIPPED).count();
+    match reading.entries.len() {
+        4096.. if skipped >= 1000 && skipped < 4000 => "of some 4,096 actions, 1,000 or more barred",
+        _ if reading.entries[first + 2..].iter().any(|e| *e != SKIPPED) => "barred, then moved on",
+        _ => "barred to its end",
+    }
 }
 
 impl Test {
@@ -108,23 +119,23 @@ impl Test {
     fn run(&mut self, kind: &str, bytes: &[u8], actions: &[u8], room: usize, expected: &Result<Reading, Refusal>) {
         let noise: Vec<u16> = (0..room + 10).map(|_| self.rng.next() as u16).collect();
         let (mut left, mut barred_left) = (noise.clone(), self.noise());
-        let (mut raw_labels, mut barred, mut returned) = (noise.clone(), barred_left, self.noise());
+        let (mut raw_entries, mut barred, mut returned) = (noise.clone(), barred_left, self.noise());
         if let Ok(reading) = expected {
-            left[..reading.labels.len()].copy_from_slice(&reading.labels);
+            left[..reading.entries.len()].copy_from_slice(&reading.entries);
             barred_left = reading.barred.unwrap_or(actions.len());
         }
         let raw_run = if kind == "sheet" { raw::run_sheet } else { raw::run_chart };
-        let number = raw_run(bytes, actions, &mut raw_labels[..room], &mut returned, &mut barred);
+        let number = raw_run(bytes, actions, &mut raw_entries[..room], &mut returned, &mut barred);
         let what = format!("run on a {kind}, room {room}, actions {}", hex(actions));
-        same(&what, bytes, (number, returned), told(expected.as_ref().map(|r| r.labels.len()).map_err(|r| *r)));
+        same(&what, bytes, (number, returned), told(expected.as_ref().map(|_| actions.len() + 1).map_err(|r| *r)));
         same(&format!("barred index, {what}"), bytes, barred, barred_left);
-        same(&format!("labels, {what}"), bytes, &raw_labels, &left);
+        same(&format!("entries, {what}"), bytes, &raw_entries, &left);
         let run = if kind == "sheet" { library::run_sheet } else { library::run_chart };
-        let mut labels = noise;
-        let safe = run(bytes, actions, &mut labels[..room]).map(|run| (run.labels, run.barred)).map_err(plain);
-        let ended = expected.as_ref().map(|reading| (reading.labels.len(), reading.barred)).map_err(|refusal| *refusal);
-        same(&format!("safe {what}"), bytes, safe, ended);
-        same(&format!("labels, safe {what}"), bytes, &labels, &left);
+        let mut entries = noise;
+        let safe = run(bytes, actions, &mut entries[..room]).map(|run| (run.entries, run.barred)).map_err(plain);
+        let ran = expected.as_ref().map(|reading| (actions.len() + 1, reading.barred)).map_err(|refusal| *refusal);
+        same(&format!("safe {what}"), bytes, safe, ran);
+        same(&format!("entries, safe {what}"), bytes, &entries, &left);
     }
 
     /// A sequence of actions, most of them below the number of actions.
@@ -150,8 +161,7 @@ impl Test {
                 for (kind, bytes) in on {
                     self.run(kind, bytes, &actions, room, &expected);
                     self.count(match &expected {
-                        Ok(Reading { barred: None, .. }) => format!("run on a {kind}: whole"),
-                        Ok(_) => format!("run on a {kind}: barred"),
+                        Ok(reading) => format!("run on a {kind}: {}", course(reading)),
                         Err(refusal) => format!("run on a {kind}: refused {}", refusal.number),
                     });
                 }
@@ -277,6 +287,75 @@ fn named(test: &mut Test) {
     same("the sample sheet's chart", &cases[0].0, chart, Ok("42 43 48 01 00 01 03 0A 00 01 0A 00 02 14 00 FF".into()));
 }
 
+/// Where the records of a sheet or a chart stand: the place of the first, how long one is, how many there are.
+struct Records {
+    first: usize,
+    size: usize,
+    count: usize,
+}
+
+/// Bytes, and the number and place of the refusal that document 01's table gives them.
+type Refused = (Vec<u8>, u8, usize);
+
+/// The label 65,535 in the first and in the last record: alone, beside faults of other numbers, with a fault of refusal 4 behind it and, for the
+/// last record, before it. `spoil` makes such a fault behind the label of the record at a place, and says where.
+fn skipped_labels(bytes: &[u8], records: &Records, spoil: impl Fn(&mut [u8], usize) -> usize) -> Vec<Refused> {
+    let (first, last) = (records.first, records.first + (records.count - 1) * records.size);
+    let labelled = |places: &[usize]| {
+        let mut out = bytes.to_vec();
+        places.iter().for_each(|at| out[*at..*at + 2].fill(255));
+        out
+    };
+    let mut all = vec![(labelled(&[first, last]), 4, first)];
+    for at in [first, last] {
+        let (alone, mut version, mut long, mut behind) = (labelled(&[at]), labelled(&[at]), labelled(&[at]), labelled(&[at]));
+        version[3] = 9;
+        long.push(0);
+        spoil(&mut behind, at);
+        all.extend([(alone, 4, at), (version, 1, 0), (long, 3, bytes.len() + 1), (behind, 4, at)]);
+    }
+    if first < last {
+        let mut before = labelled(&[last]);
+        let place = spoil(&mut before, first);
+        all.push((before, 4, place));
+    }
+    all
+}
+
+/// The same on accepted sheets and on their charts. The fault behind a label is low above high in a sheet, and in a chart a target that is no block.
+fn refused_labels(test: &mut Test, count: usize) {
+    for _ in 0..count {
+        let bytes = test.accepted_sheet();
+        let sheet = sheets::check_but_landing(&bytes).expect("accepted");
+        let (counters, actions) = (sheet.counters, sheet.actions);
+        let size = 3 + 4 * counters + actions * (2 + 7 * counters);
+        let regions = Records { first: 9 + 2 * counters, size, count: sheet.regions.len() };
+        let crossed = |out: &mut [u8], at: usize| {
+            out[at + 3..at + 7].copy_from_slice(&[5, 0, 4, 0]);
+            at + 5
+        };
+        for (changed, number, returned) in skipped_labels(&bytes, &regions, crossed) {
+            same("label 65,535 of a sheet", &changed, test.check("sheet", &changed), (number, returned));
+            test.sheet(&changed);
+            test.count("label 65,535 in a sheet");
+        }
+        let Ok(made) = sheets::make(&sheet) else { continue };
+        if made.blocks > 254 {
+            continue;
+        }
+        let aimless = |out: &mut [u8], at: usize| {
+            let target = at + 1 + actions;
+            out[target] = 254;
+            target
+        };
+        for (changed, number, returned) in skipped_labels(&made.chart, &Records { first: 7, size: 2 + actions, count: made.blocks }, aimless) {
+            same("label 65,535 of a chart", &changed, test.check("chart", &changed), (number, returned));
+            test.chart(&changed);
+            test.count("label 65,535 in a chart");
+        }
+    }
+}
+
 fn random_sheets(test: &mut Test, count: usize) {
     for i in 0..count {
         let bytes = generate::encode(&generate::sheet(&mut test.rng));
@@ -355,12 +434,12 @@ fn kinds() -> Vec<String> {
         "chart: accepted",
         "chart: refused 12 at a record",
         "chart: refused 12 at a target",
-        "run on a sheet: whole",
-        "run on a sheet: barred",
-        "run on a chart: whole",
-        "run on a chart: barred",
+        "label 65,535 in a sheet",
+        "label 65,535 in a chart",
     ];
     all.extend(others.map(String::from));
+    let courses = ["nothing barred", "barred to its end", "barred, then moved on", "of some 4,096 actions, 1,000 or more barred"];
+    all.extend(courses.iter().flat_map(|course| ["sheet", "chart"].map(|kind| format!("run on a {kind}: {course}"))));
     all
 }
 
@@ -370,6 +449,7 @@ fn main() {
     let mut test = Test { rng: Random(seed), kinds: BTreeMap::new() };
     wrapper::test();
     named(&mut test);
+    refused_labels(&mut test, count as usize / 20);
     random_sheets(&mut test, count as usize);
     grids(&mut test, count as usize / 40);
     random_charts(&mut test, count as usize);

@@ -42,10 +42,13 @@ pub struct Sheet {
     pub regions: Vec<Region>,
 }
 
-/// What a reading gives: its labels, and the index of the barred action, if any.
+/// What a reading has in the place of a label where an action is barred.
+pub const SKIPPED: u16 = 65535;
+
+/// What a reading gives: the label of the start and an entry for each action, and the index of the first barred action, if any.
 #[derive(PartialEq, Eq, Debug, Clone)]
 pub struct Reading {
-    pub labels: Vec<u16>,
+    pub entries: Vec<u16>,
     pub barred: Option<usize>,
 }
 
@@ -124,6 +127,7 @@ fn read_move(c: &mut Cursor, counters: usize) -> Result<Option<Move>, Refusal> {
 fn read_region(c: &mut Cursor, counters: usize, actions: usize) -> Result<Region, Refusal> {
     let place = c.at;
     let (label, state) = (c.unsigned(2) as u16, c.byte());
+    allowed(label != SKIPPED, place)?;
     let mut bounds = Vec::new();
     for _ in 0..counters {
         let (low, at) = (c.signed(2), c.at);
@@ -348,13 +352,20 @@ pub fn make(sheet: &Sheet) -> Result<Made, Refusal> {
 pub fn reading(sheet: &Sheet, actions: &[u8]) -> Reading {
     let at = |x: &Configuration| sheet.regions.iter().find(|r| inside(r, x)).expect("a region");
     let mut x = sheet.start.clone();
-    let mut labels = vec![at(&x).label];
+    let (mut entries, mut barred) = (vec![at(&x).label], None);
     for (i, a) in actions.iter().enumerate() {
-        let Some(m) = &at(&x).moves[*a as usize].1 else { return Reading { labels, barred: Some(i) } };
-        x = landing(m, &x.1);
-        labels.push(at(&x).label);
+        match &at(&x).moves[*a as usize].1 {
+            None => {
+                entries.push(SKIPPED);
+                barred = barred.or(Some(i));
+            }
+            Some(m) => {
+                x = landing(m, &x.1);
+                entries.push(at(&x).label);
+            }
+        }
     }
-    Reading { labels, barred: None }
+    Reading { entries, barred }
 }
 
 /// What a run refuses of its sequence and its buffer: 3, 11, 10.

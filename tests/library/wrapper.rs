@@ -1,10 +1,10 @@
-//! What include/pilfstera.rs has of its own: the words of a refusal, the lengths and limits, and how a run ended. Each is held to what the
+//! What include/pilfstera.rs has of its own: the words of a refusal, the lengths and limits, and what a run answers. Each is held to what the
 //! library answers, or to document 01.
 
 use crate::generate::{encode, one_counter, region};
 use crate::library::{
     chart_length, check_sheet, list_length, make, run_chart, run_room, run_sheet, Refusal, Run, LONGEST_CHART, LONGEST_LIST,
-    LONGEST_SEQUENCE, LONGEST_SHEET, MOST_ACTIONS, MOST_BLOCKS, MOST_COUNTERS, MOST_REGIONS,
+    LONGEST_SEQUENCE, LONGEST_SHEET, MOST_ACTIONS, MOST_BLOCKS, MOST_COUNTERS, MOST_REGIONS, SKIPPED,
 };
 use crate::same;
 use crate::sheets::{Move, Rule, Sheet};
@@ -106,28 +106,35 @@ fn limits() {
     let made = |blocks| make(&counted(blocks), &mut [0; LONGEST_CHART], &mut [0; LONGEST_LIST]);
     same("MOST_BLOCKS", &counted(MOST_BLOCKS), made(MOST_BLOCKS), Ok(MOST_BLOCKS));
     same("a block more", &counted(MOST_BLOCKS + 1), made(MOST_BLOCKS + 1), refused(9, 0));
-    let (actions, mut labels) = ([0; LONGEST_SEQUENCE + 1], [0; run_room(LONGEST_SEQUENCE + 1)]);
-    let barred = Run { labels: 255, barred: Some(254) };
-    same("LONGEST_SEQUENCE", &bytes, run_sheet(&bytes, &actions[1..], &mut labels), Ok(barred));
-    same("an action more", &bytes, run_sheet(&bytes, &actions, &mut labels), refused(3, LONGEST_SEQUENCE + 1));
+    let (actions, mut entries) = ([0; LONGEST_SEQUENCE + 1], [0; run_room(LONGEST_SEQUENCE + 1)]);
+    let ran = Run { entries: run_room(LONGEST_SEQUENCE), barred: Some(254) };
+    same("LONGEST_SEQUENCE", &bytes, run_sheet(&bytes, &actions[1..], &mut entries), Ok(ran));
+    let (read, rest) = entries.split_at(run_room(LONGEST_SEQUENCE));
+    same("the actions that were barred", &bytes, read[255..].iter().all(|e| *e == SKIPPED), true);
+    same("the label before them, and the entry behind", &bytes, (read[254], rest), (31, [0].as_slice()));
+    same("an action more", &bytes, run_sheet(&bytes, &actions, &mut entries), refused(3, LONGEST_SEQUENCE + 1));
     for count in [0, 1, 2, LONGEST_SEQUENCE] {
-        same("run_room", &bytes, run_sheet(&bytes, &actions[..count], &mut labels[..count]), refused(10, run_room(count)));
+        same("run_room", &bytes, run_sheet(&bytes, &actions[..count], &mut entries[..count]), refused(10, run_room(count)));
     }
 }
 
-/// How runs of the sample sheet and of its chart end: document 01's P9, and shorter ones.
+/// Runs of the sample sheet and of its chart: P9 as document 02 has it, shorter ones and a longer one.
 fn runs() {
-    let ends = [(0, 1, None), (1, 2, None), (2, 3, None), (3, 3, Some(2)), (4, 3, Some(2))];
+    let read = [10, 10, 20, SKIPPED, SKIPPED];
     let sheet = one_counter(2, &[(0, 7, Some((2, 1))), (8, 15, None)]);
     let (mut chart, mut list) = ([0; chart_length(3, 1)], [0; list_length(3, 1)]);
     same("the sample chart", &sheet, make(&sheet, &mut chart, &mut list), Ok(3));
-    for (count, labels, barred) in ends {
-        let (actions, expected) = (vec![0; count], Ok(Run { labels, barred }));
-        same("a run on the sample sheet", &sheet, run_sheet(&sheet, &actions, &mut vec![0; run_room(count)]), expected);
-        same("a run on the sample chart", &chart, run_chart(&chart, &actions, &mut vec![0; run_room(count)]), expected);
+    for count in 0..5 {
+        let (actions, mut entries) = (vec![0; count], vec![0; run_room(count)]);
+        let expected = Ok(Run { entries: count + 1, barred: (count > 2).then_some(2) });
+        same("a run on the sample sheet", &sheet, run_sheet(&sheet, &actions, &mut entries), expected);
+        same("what it read", &sheet, &entries[..], &read[..=count]);
+        entries.fill(0);
+        same("a run on the sample chart", &chart, run_chart(&chart, &actions, &mut entries), expected);
+        same("what it read", &chart, &entries[..], &read[..=count]);
     }
     let last = one_counter(8, &[(0, 7, Some((2, 1))), (8, 15, None)]);
-    same("a run barred at once", &last, run_sheet(&last, &[0], &mut [0; 2]), Ok(Run { labels: 1, barred: Some(0) }));
+    same("a run barred at once", &last, run_sheet(&last, &[0], &mut [0; 2]), Ok(Run { entries: 2, barred: Some(0) }));
 }
 
 pub fn test() {

@@ -42,6 +42,8 @@ def listing(sheet):
     size = 3 + 4 * counters + actions * (2 + 7 * counters)
     places = [9 + 2 * counters + i * size for i in range(len(regions))]
     labels = [r[0] for r in regions]
+    if 65535 in labels:
+        return f"refused 4 at {places[labels.index(65535)]}"
     for j, label in enumerate(labels):
         if label in labels[:j]:
             return f"refused 5 at {places[j]}"
@@ -113,6 +115,8 @@ def random_sheet(rng):
     labels = rng.sample(range(1, 60), count)
     if rng.random() < 0.05:
         labels[-1] = labels[0]
+    if rng.random() < 0.05:
+        labels[rng.randrange(count)] = rng.choice([65534, 65535])
     regions = []
     for label, (control, bounds) in zip(labels, shapes):
         moves = []
@@ -158,7 +162,7 @@ def main():
             differ += 1
             print(f"differs: {name or sheet}\n{expected}\n{run.stdout.decode()}")
     print("compared:", ", ".join(f"{kinds[k]} {k}" for k in sorted(kinds)))
-    missing = {"chart", "refused 5", "refused 6", "refused 7", "refused 8", "refused 9"} - set(kinds)
+    missing = {"chart", "refused 4", "refused 5", "refused 6", "refused 7", "refused 8", "refused 9"} - set(kinds)
     sys.exit(1 if differ or missing else 0)
 
 

@@ -107,6 +107,10 @@ go-on e h k = passed (sym e ∙ h) k
 pub demand-by : {r : Checked} {t u : Bool} (n p : ℕ) → r ≡ demand t n p → t ≡ u → r ≡ demand u n p
 demand-by n p e h = e ∙ ap (λ (t : Bool). demand t n p) h
 
+-- a test of a number that was read, at a place that was computed
+pub demand-at : (t : ℕ → Bool) (n : ℕ) {l m p q : ℕ} {r : Checked} → l ≡ m → p ≡ q → r ≡ demand (t l) n p → r ≡ demand (t m) n q
+demand-at t n {m = m} {p = p} e h k = k ∙ ap (λ (x : ℕ). demand (t x) n p) e ∙ ap (demand (t m) n) h
+
 -- a loop over stages: one refused, one more passed, all passed
 pub loop-stop : (f : ℕ → Checked) (i n : ℕ) {r : Checked} {m p : ℕ} → each f i ≡ Fine → r ≡ f i → r ≡ Refused m p → i < n → r ≡ each f n
 loop-stop f i n e h k l = k ∙ sym (each-first f i n e (sym h ∙ k) l)

@@ -3,6 +3,7 @@
 
 ghost use mathlib.Core.Path.{_≡_};
 ghost use Rattle.answers.specs.Stages.{demand};
+ghost use Rattle.answers.specs.Run.{notedAt};
 
 pub mod sequence;
 
@@ -12,15 +13,15 @@ pub enum Checked {
     Refused { number: u8, returned: usize },
 }
 
-// How a reading ended: all actions were taken, or the action at an index was barred.
-pub enum Ending {
-    Whole,
-    Barred { index: usize },
+// The first barred action of a sequence: none was barred, or the one at an index was the first.
+pub enum FirstBarred {
+    Nothing,
+    At { index: usize },
 }
 
-// A run: how many labels were written and how the reading ended, or a refusal.
+// A run: how many entries were written and which action was barred first, or a refusal.
 pub enum Ran {
-    Done { labels: usize, ending: Ending },
+    Done { entries: usize, barred: FirstBarred },
     Refused { number: u8, returned: usize },
 }
 
@@ -32,5 +33,19 @@ pub fn demanded(test: bool, number: u8, returned: usize) -> Checked
         Checked::Fine
     } else {
         Checked::Refused { number, returned }
+    }
+}
+
+// The first barred action, once the action at a further index was taken or, where it was barred, skipped.
+pub fn noted(first: FirstBarred, index: usize, barred: bool) -> FirstBarred
+    ensures { λ r. ⌜ r ≡ notedAt first index barred ⌝ }
+{
+    let FirstBarred::Nothing = first else {
+        return first;
+    };
+    if barred {
+        FirstBarred::At { index }
+    } else {
+        FirstBarred::Nothing
     }
 }

@@ -25,7 +25,7 @@ use Rattle.chart_bytes.specs.Header.{targetAt, marked, lengthCheck, headerCheck
 use Rattle.chart_bytes.specs.Shape.{Shaped, record-start}
 use Rattle.chart_bytes.specs.HeaderLaws.{mark-good, counts-good, length-good, header-passed}
 use Rattle.chart_bytes.specs.Classes.{same-barred, same-opened, same-classed}
-use Rattle.chart.specs.Check.{targetCheck, targetsCheck, recordCheck, orderCheck, numberCheck, numbersCheck, sameBar, sameBars, barCheck, barsCheck, classCheck, classesCheck, formCheck, chartCheck}
+use Rattle.chart.specs.Check.{targetCheck, fieldsCheck, limitsCheck, recordCheck, orderCheck, numberCheck, numbersCheck, sameBar, sameBars, barCheck, barsCheck, classCheck, classesCheck, formCheck, chartCheck}
 
 or-true : (a b : Bool) → (a || b) ≡ true → (a ≡ true) ⊎ (b ≡ true)
 or-true true b e = inl refl
@@ -52,27 +52,47 @@ mark-take c h = (
 )
 
 -- 4
-pub targets-right : (c : List ℕ) → (targetsCheck c ≡ Fine) ↔ TargetsRight c
-unfolding targetsCheck targetCheck
-targets-right c = (
-  λ e i a hi ha.
+pub record Limited (c : List ℕ) : Type 0 where
+  pub labels : (i : ℕ) → i < blocksOf c → labelOf c i < 65535
+  pub targets : TargetsRight c
+
+target-right : (c : List ℕ) (i a : ℕ) → (targetCheck c i a ≡ Fine) ↔ ((targetOf c i a < blocksOf c) ⊎ (targetOf c i a ≡ 255))
+unfolding targetCheck
+target-right c i a = (
+  λ e.
       ⊎-elim
       (λ q. inr (eqb-true (targetOf c i a) 255 q))
       (λ q. inl (ltb-true (targetOf c i a) (blocksOf c) q))
       (or-true (eqb (targetOf c i a) 255) (ltb (targetOf c i a) (blocksOf c))
-      (demand-fine (eqb (targetOf c i a) 255 || ltb (targetOf c i a) (blocksOf c)) 4 (targetAt c i a)
-      (each-fine (targetCheck c i) (actionsOf c) (each-fine (λ i. each (targetCheck c i) (actionsOf c)) (blocksOf c) e i hi) a ha))),
+      (demand-fine (eqb (targetOf c i a) 255 || ltb (targetOf c i a) (blocksOf c)) 4 (targetAt c i a) e)),
   λ r.
-      each-all (λ i. each (targetCheck c i) (actionsOf c)) (blocksOf c)
-      (λ i hi.
-      each-all (targetCheck c i) (actionsOf c)
-      (λ a ha.
       demand-pass 4 (targetAt c i a)
       (⊎-elim
       (λ q. or-second (eqb (targetOf c i a) 255) (lt-ltb (targetOf c i a) (blocksOf c) q))
       (λ q. or-first (ltb (targetOf c i a) (blocksOf c)) (eq-eqb (targetOf c i a) 255 q))
-      (r i a hi ha)))),
+      r),
 )
+
+pub limits-right : (c : List ℕ) → (limitsCheck c ≡ Fine) ↔ Limited c
+unfolding limitsCheck fieldsCheck
+limits-right c = (
+  λ e.
+      record {
+        labels = λ i h. ltb-true (labelOf c i) 65535 (demand-fine (ltb (labelOf c i) 65535) 4 (recordAt c i) (parts e i h .0));
+        targets = λ i a h b. target-right c i a .0 (each-fine (targetCheck c i) (actionsOf c) (parts e i h .1) a b);
+      },
+  λ r.
+      each-all (fieldsCheck c) (blocksOf c)
+      (λ i h.
+      sym
+      (passed (demand-pass 4 (recordAt c i) (lt-ltb (labelOf c i) 65535 (r .labels i h)))
+      (sym (each-all (targetCheck c i) (actionsOf c) (λ a b. target-right c i a .1 (r .targets i a h b)))))),
+)
+  where
+    parts : limitsCheck c ≡ Fine → (i : ℕ) → i < blocksOf c
+        → (demand (ltb (labelOf c i) 65535) 4 (recordAt c i) ≡ Fine) × (each (targetCheck c i) (actionsOf c) ≡ Fine)
+    parts e i h =
+        then-fine (demand (ltb (labelOf c i) 65535) 4 (recordAt c i)) (each (targetCheck c i) (actionsOf c)) (each-fine (fieldsCheck c) (blocksOf c) e i h)
 
 -- 12
 pub record Numbered (c : List ℕ) : Type 0 where
@@ -285,6 +305,7 @@ classes-right c few right = (
 pub record Formed (c : List ℕ) : Type 0 where
   pub mark : marked c ≡ true
   pub shape : Shaped c
+  pub labels : (i : ℕ) → i < blocksOf c → labelOf c i < 65535
   pub targets : TargetsRight c
   pub numbers : Numbered c
   pub bars : BarsAlike c
@@ -292,11 +313,12 @@ pub record Formed (c : List ℕ) : Type 0 where
 pub form-passed : (c : List ℕ) → formCheck c ≡ Fine → Formed c
 unfolding formCheck
 form-passed c e =
-    let (p, q) = then-fine (headerCheck c) (andThen (targetsCheck c) (andThen (numbersCheck c) (barsCheck c))) e in
-    let (r, s) = then-fine (targetsCheck c) (andThen (numbersCheck c) (barsCheck c)) q in
+    let (p, q) = then-fine (headerCheck c) (andThen (limitsCheck c) (andThen (numbersCheck c) (barsCheck c))) e in
+    let (r, s) = then-fine (limitsCheck c) (andThen (numbersCheck c) (barsCheck c)) q in
     let (t, u) = then-fine (numbersCheck c) (barsCheck c) s in
     let (m, h) = header-passed c p in
-    record { mark = m; shape = h; targets = targets-right c .0 r; numbers = numbers-right c .0 t; bars = bars-right c .0 u }
+    let l = limits-right c .0 r in
+    record { mark = m; shape = h; labels = l .labels; targets = l .targets; numbers = numbers-right c .0 t; bars = bars-right c .0 u }
 
 pub form-passes : (c : List ℕ) → Formed c → formCheck c ≡ Fine
 unfolding formCheck headerCheck
@@ -305,7 +327,7 @@ form-passes c f =
     let k : blocksOf c < 256 = omega (arith, s .blocks-few) in
     let h = passed (sym (mark-good c (s .header) refl (f .mark)))
     (passed (sym (counts-good c (s .actions-some) (s .actions-few) (s .blocks-some) k)) (length-right c s)) in
-    sym (passed (sym h) (passed (targets-right c .1 (f .targets)) (passed (numbers-right c .1 (f .numbers)) (sym (bars-right c .1 (f .bars))))))
+    sym (passed (sym h) (passed (limits-right c .1 (record { labels = f .labels; targets = f .targets })) (passed (numbers-right c .1 (f .numbers)) (sym (bars-right c .1 (f .bars))))))
   where
     length-right : (c : List ℕ) → Shaped c → Fine ≡ lengthCheck c
     length-right c s = length-good c (s .length-right ∙ sym (record-start c (blocksOf c)))
@@ -326,6 +348,7 @@ accepted c = (λ e. rules (then-fine (formCheck c) (classesCheck c) e), back)
           blocks-some = s .blocks-some;
           blocks-few = s .blocks-few;
           length-right = s .length-right;
+          labels-right = f .labels;
           targets-right = f .targets;
           named-in-order = f .numbers .in-order;
           named-before = f .numbers .before;
@@ -351,6 +374,7 @@ accepted c = (λ e. rules (then-fine (formCheck c) (classesCheck c) e), back)
         record {
           mark = mark-take c (s .header) .1 (r .mark);
           shape = s;
+          labels = r .labels-right;
           targets = r .targets-right;
           numbers = record { in-order = r .named-in-order; before = r .named-before };
           bars = r .bars-alike;

@@ -13,8 +13,12 @@ use Rattle.chart_bytes.specs.Header.{targetAt, headerCheck}
 unfoldable pub targetCheck : List ℕ → ℕ → ℕ → Checked
 targetCheck c i a = demand (eqb (targetOf c i a) 255 || ltb (targetOf c i a) (blocksOf c)) 4 (targetAt c i a)
 
-unfoldable pub targetsCheck : List ℕ → Checked
-targetsCheck c = each (λ i. each (targetCheck c i) (actionsOf c)) (blocksOf c)
+-- the fields of a record: the label 65,535, then the targets
+unfoldable pub fieldsCheck : List ℕ → ℕ → Checked
+fieldsCheck c i = andThen (demand (ltb (labelOf c i) 65535) 4 (recordAt c i)) (each (targetCheck c i) (actionsOf c))
+
+unfoldable pub limitsCheck : List ℕ → Checked
+limitsCheck c = each (fieldsCheck c) (blocksOf c)
 
 -- 12: a record after block 0 that no earlier record named; a target, 255 apart, above the next unnamed number m
 unfoldable pub recordCheck : List ℕ → ℕ → ℕ → Checked
@@ -53,7 +57,7 @@ classesCheck c = each (classCheck c (roundClass c (blocksOf c))) (blocksOf c)
 
 -- all that comes before 14
 unfoldable pub formCheck : List ℕ → Checked
-formCheck c = andThen (headerCheck c) (andThen (targetsCheck c) (andThen (numbersCheck c) (barsCheck c)))
+formCheck c = andThen (headerCheck c) (andThen (limitsCheck c) (andThen (numbersCheck c) (barsCheck c)))
 
 -- The check of a chart.
 unfoldable pub chartCheck : List ℕ → Checked

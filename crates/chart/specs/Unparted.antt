@@ -16,7 +16,7 @@ use Rattle.answers.specs.Stages.{andThen, demand, each, passed, each-first}
 use Rattle.model.specs.Chart.{actionsOf, blocksOf, recordAt, nextIn, nextUnnamed, chartSystem, roundClass}
 use Rattle.model.specs.Rounds.{rounds-alike}
 use Rattle.chart_bytes.specs.Header.{markCheck, countCheck, lengthCheck, headerCheck}
-use Rattle.chart.specs.Check.{targetCheck, targetsCheck, recordCheck, orderCheck, numberCheck, numbersCheck, barCheck, barsCheck, classCheck, classesCheck, formCheck, chartCheck}
+use Rattle.chart.specs.Check.{targetCheck, fieldsCheck, limitsCheck, recordCheck, orderCheck, numberCheck, numbersCheck, barCheck, barsCheck, classCheck, classesCheck, formCheck, chartCheck}
 use Rattle.chart.specs.Apart.{class-shared}
 use Rattle.chart.specs.Accepted.{Formed, form-passed, class-own, own-apart, classes-own}
 
@@ -55,14 +55,16 @@ below-each f zero h = λ m q e. let z : _≡_ {A = ℕ} 0 1 = cc in absurd (omeg
 below-each f (suc n) h = below-then (each f n) (f n) (below-each f n h) (h n)
 
 form-below : (c : List ℕ) → Below14 (formCheck c)
-unfolding formCheck headerCheck markCheck countCheck lengthCheck targetsCheck targetCheck numbersCheck numberCheck recordCheck orderCheck barsCheck barCheck
+unfolding formCheck headerCheck markCheck countCheck lengthCheck limitsCheck fieldsCheck targetCheck numbersCheck numberCheck recordCheck orderCheck barsCheck barCheck
 form-below c =
-    below-then (headerCheck c) (andThen (targetsCheck c) (andThen (numbersCheck c) (barsCheck c)))
+    below-then (headerCheck c) (andThen (limitsCheck c) (andThen (numbersCheck c) (barsCheck c)))
     (below-then (markCheck c) (andThen (countCheck c) (lengthCheck c))
     (below-demand _ 1 0 (omega arith))
     (below-then (countCheck c) (lengthCheck c) (below-then _ _ (below-demand _ 2 5 (omega arith)) (below-demand _ 2 6 (omega arith))) (below-demand _ 3 _ (omega arith))))
-    (below-then (targetsCheck c) (andThen (numbersCheck c) (barsCheck c))
-    (below-each (λ i. each (targetCheck c i) (actionsOf c)) (blocksOf c) (λ i. below-each (targetCheck c i) (actionsOf c) (λ a. below-demand _ 4 _ (omega arith))))
+    (below-then (limitsCheck c) (andThen (numbersCheck c) (barsCheck c))
+    (below-each (fieldsCheck c) (blocksOf c)
+    (λ i.
+    below-then _ (each (targetCheck c i) (actionsOf c)) (below-demand _ 4 _ (omega arith)) (below-each (targetCheck c i) (actionsOf c) (λ a. below-demand _ 4 _ (omega arith)))))
     (below-then (numbersCheck c) (barsCheck c)
     (below-each (λ i. numberCheck c i (nextUnnamed c i)) (blocksOf c)
     (λ i.

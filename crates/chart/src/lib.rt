@@ -12,8 +12,8 @@ use chart_bytes::header::check_header;
 
 mod bars;
 mod classes;
+mod limits;
 mod numbering;
-mod targets;
 mod walk;
 
 // All refusals before 14.
@@ -24,9 +24,9 @@ fn check_form(c: &[u8]) -> Checked
     let Checked::Fine = found else {
         return found;
     };
-    let targets = targets::check_targets(c);
-    let Checked::Fine = targets else {
-        return targets;
+    let limits = limits::check_limits(c);
+    let Checked::Fine = limits else {
+        return limits;
     };
     let numbers = numbering::check_numbers(c);
     let Checked::Fine = numbers else {
@@ -57,14 +57,15 @@ fn check_run(c: &[u8], actions: &[u8], room: usize) -> Checked
     check_sequence(actions, actions_of(c), room)
 }
 
-// The run of an action sequence on a chart: the labels read are written from the buffer's front, unless something is refused.
-pub fn run(c: &[u8], actions: &[u8], labels: &mut [u16]) -> Ran
-    ensures { λ r. ⌜ r ≡ chartRan (now (c .entry)) (now (actions .entry)) (length (now (labels .entry))) ⌝ }
-    ensures { λ r. ⌜ now (labels .exit) ≡ chartLeft (now (c .entry)) (now (actions .entry)) (now (labels .entry)) ⌝ }
+// The run of an action sequence on a chart: the label of block 0 and an entry for each action are written from the buffer's front,
+// unless something is refused.
+pub fn run(c: &[u8], actions: &[u8], entries: &mut [u16]) -> Ran
+    ensures { λ r. ⌜ r ≡ chartRan (now (c .entry)) (now (actions .entry)) (length (now (entries .entry))) ⌝ }
+    ensures { λ r. ⌜ now (entries .exit) ≡ chartLeft (now (c .entry)) (now (actions .entry)) (now (entries .entry)) ⌝ }
 {
-    let checked = check_run(c, actions, labels.len());
+    let checked = check_run(c, actions, entries.len());
     let Checked::Refused { number, returned } = checked else {
-        return walk::walk(c, actions, labels);
+        return walk::walk(c, actions, entries);
     };
     Ran::Refused { number, returned }
 }

@@ -4,38 +4,65 @@ ghost use Prim.Native.Nat.{ℕ, _+_, _≤_, _<_};
 ghost use lib.ListN.{length, getD};
 ghost use Rattle.answers.specs.declared.Checked.the-variants.{Fine};
 ghost use Rattle.answers.specs.Run.{ranBy, leftBy};
-ghost use Rattle.model.specs.Chart.{actionsOf, chartReading};
+ghost use Rattle.model.specs.Chart.{actionsOf, blocksOf, chartReading};
 ghost use Rattle.model.specs.Rounds.{TargetsRight};
 ghost use Rattle.chart_bytes.specs.Shape.{Shaped};
-use answers::Ending;
+ghost use Rattle.chart.specs.Walk.{Acts};
+use answers::FirstBarred;
 use answers::Ran;
+use answers::noted;
 use chart_bytes::fields::label_of;
 use chart_bytes::fields::target_of;
 
-// Writes the label of block 0 and the label after each action, up to the first barred one.
-pub(crate) fn walk(c: &[u8], actions: &[u8], labels: &mut [u16]) -> Ran
+// What one action does: the block where the walk is then, what is written, and whether the action was barred.
+pub(crate) struct Acted {
+    pub block: usize,
+    pub entry: u16,
+    pub barred: bool,
+}
+
+// Takes one action from a block. A barred one stays there and writes 65,535.
+fn act(c: &[u8], block: usize, action: usize) -> Acted
+    requires { ⌜ Shaped (now c) ⌝ }
+    requires { ⌜ TargetsRight (now c) ⌝ }
+    requires { ⌜ (block < blocksOf (now c)) × (action < actionsOf (now c)) ⌝ }
+    ensures { λ r. ⌜ Acts (now (c .entry)) block action r ⌝ }
+{
+    let target = target_of(c, block, action);
+    if target == 255 {
+        return Acted {
+            block,
+            entry: 65535,
+            barred: true,
+        };
+    }
+    Acted {
+        block: target,
+        entry: label_of(c, target),
+        barred: false,
+    }
+}
+
+// Writes the label of block 0 and an entry for each action.
+pub(crate) fn walk(c: &[u8], actions: &[u8], entries: &mut [u16]) -> Ran
     requires { ⌜ Shaped (now c) ⌝ }
     requires { ⌜ TargetsRight (now c) ⌝ }
     requires { ⌜ ((i : ℕ) → i < length (now actions) → getD (now actions) i 0 < actionsOf (now c)) ⌝ }
-    requires { ⌜ length (now actions) + 1 ≤ length (now labels) ⌝ }
+    requires { ⌜ length (now actions) + 1 ≤ length (now entries) ⌝ }
     ensures { λ r. ⌜ r ≡ ranBy Fine (chartReading (now (c .entry)) (now (actions .entry))) ⌝ }
-    ensures { λ r. ⌜ now (labels .exit) ≡ leftBy Fine (chartReading (now (c .entry)) (now (actions .entry))) (now (labels .entry)) ⌝ }
+    ensures { λ r. ⌜ now (entries .exit) ≡ leftBy Fine (chartReading (now (c .entry)) (now (actions .entry))) (now (entries .entry)) ⌝ }
 {
     let mut block = 0;
-    labels[0] = label_of(c, block);
+    let mut first = FirstBarred::Nothing;
+    entries[0] = label_of(c, block);
     for i in 0..actions.len() {
-        let target = target_of(c, block, actions[i] as usize);
-        if target == 255 {
-            return Ran::Done {
-                labels: i + 1,
-                ending: Ending::Barred { index: i },
-            };
-        }
-        block = target;
-        labels[i + 1] = label_of(c, block);
+        let acted = act(c, block, actions[i] as usize);
+        block = acted.block;
+        entries[i + 1] = acted.entry;
+        first = noted(first, i, acted.barred);
     }
     Ran::Done {
-        labels: actions.len() + 1,
-        ending: Ending::Whole,
+        entries: actions.len() + 1,
+        barred: first,
     }
 }

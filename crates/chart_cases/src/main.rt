@@ -105,6 +105,40 @@ fn show_counts(c: &mut [u8; 2600]) {
     show(b"one byte long", c, 17);
 }
 
+// The record at a place with the label 65,535, shown, and changed back.
+fn skipped(name: &[u8], c: &mut [u8; 2600], len: usize, at: usize) {
+    if at < 2599 {
+        let low = c[at];
+        let high = c[at + 1];
+        c[at] = 255;
+        c[at + 1] = 255;
+        show(name, c, len);
+        c[at] = low;
+        c[at + 1] = high;
+    }
+}
+
+// Refusal 4 for a label, alone and with another fault: before it, behind it, and before it but of a later number.
+fn show_labels(c: &mut [u8; 2600]) {
+    chain(c, false, 3);
+    skipped(b"label 65535, first record", c, 16, 7);
+    skipped(b"label 65535, last record", c, 16, 13);
+    target(c, false, 1, 0, 3);
+    skipped(b"label 65535 and a target before it", c, 16, 13);
+    skipped(b"label 65535 and a target behind it", c, 16, 10);
+    target(c, false, 1, 0, 1);
+    skipped(b"label 65535 and a block not named", c, 16, 13);
+}
+
+fn show_last_label(c: &mut [u8; 2600]) {
+    chain(c, false, 3);
+    label(c, false, 2, 254);
+    poke(c, 14, 255);
+    show(b"label 65534", c, 16);
+    chain(c, true, 255);
+    skipped(b"label 65535, record 254", c, 2557, 2547);
+}
+
 // Refusals 4 and 12 at their first places, then 13, 14 and single blocks.
 fn show_named(c: &mut [u8; 2600]) {
     chain(c, false, 3);
@@ -157,6 +191,8 @@ fn main() {
     let mut c = [0u8; 2600];
     show_header(&mut c);
     show_counts(&mut c);
+    show_labels(&mut c);
+    show_last_label(&mut c);
     show_named(&mut c);
     show_first(&mut c);
     show_single(&mut c);

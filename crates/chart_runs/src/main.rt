@@ -1,14 +1,15 @@
-// Runs charts at their extremes: 0 to 4,097 actions, barred at once and at the end, each refusal of a run. Its output is stored.
+// Runs charts at their extremes: 0 to 4,097 actions, barred at once, at the end and in between, each refusal of a run. Its output is
+// stored.
 use text::put;
-use text::put_labels;
+use text::put_entries;
 use text::put_ran;
 
 // A run of the first n actions with a buffer of room entries.
-fn run_on(c: &[u8], len: usize, w: &[u8], n: usize, labels: &mut [u16], room: usize) {
+fn run_on(c: &[u8], len: usize, w: &[u8], n: usize, entries: &mut [u16], room: usize) {
     if len <= c.len() {
         if n <= w.len() {
-            if room <= labels.len() {
-                put_ran(chart::run(&c[0..len], &w[0..n], &mut labels[0..room]));
+            if room <= entries.len() {
+                put_ran(chart::run(&c[0..len], &w[0..n], &mut entries[0..room]));
             }
         }
     }
@@ -16,12 +17,12 @@ fn run_on(c: &[u8], len: usize, w: &[u8], n: usize, labels: &mut [u16], room: us
 
 // The same, and the buffer's ends afterwards.
 fn show_run(name: &[u8], c: &[u8], len: usize, w: &[u8], n: usize, room: usize) {
-    let mut labels = [7777u16; 4100];
+    let mut entries = [7777u16; 4100];
     put(name);
     put(b": ");
-    run_on(c, len, w, n, &mut labels, room);
-    put_labels(&labels, 0);
-    put_labels(&labels, 4095);
+    run_on(c, len, w, n, &mut entries, room);
+    put_entries(&entries, 0);
+    put_entries(&entries, 4095);
 }
 
 // A chain of three blocks, barred in the last: the scope's chart P1.
@@ -29,7 +30,8 @@ fn show_chain(w: &[u8; 4097]) {
     let c = b"BCH\x01\0\x01\x03\x0A\0\x01\x0A\0\x02\x14\0\xFF";
     show_run(b"no action", c, 16, w, 0, 4100);
     show_run(b"1 action", c, 16, w, 1, 4100);
-    show_run(b"3 actions, barred", c, 16, w, 3, 4100);
+    show_run(b"3 actions, the last one barred", c, 16, w, 3, 4100);
+    show_run(b"4096 actions, all but two barred", c, 16, w, 4096, 4097);
     show_run(b"3 actions, room for 3", c, 16, w, 3, 3);
     show_run(b"no action, no room", c, 16, w, 0, 0);
     show_run(b"chart one byte short", c, 15, w, 4097, 0);
@@ -39,6 +41,14 @@ fn show_chain(w: &[u8; 4097]) {
 fn show_barred(w: &[u8; 4097]) {
     let c = b"BCH\x01\0\x01\x01\x0A\0\xFF";
     show_run(b"barred at once", c, 10, w, 1, 4100);
+}
+
+// Two actions, each of which is barred in the block where it leads, and not in the other.
+fn show_skipping(w: &mut [u8; 4097]) {
+    let c = b"BCH\x01\0\x02\x02\x0A\0\x01\xFF\x14\0\xFF\0";
+    w[0] = 0;
+    w[2] = 1;
+    show_run(b"actions 0, 0, 1, the second one barred", c, 15, w, 3, 4100);
 }
 
 // Actions that the chart lacks, the last of the longest sequence and the first.
@@ -63,4 +73,5 @@ fn main() {
     show_chain(&w);
     show_barred(&w);
     show_ring(&mut w);
+    show_skipping(&mut w);
 }

@@ -13,7 +13,7 @@ use Rattle.model.specs.Sheet.{Configuration, inBox, sheetSystem, sheetReading, 
 use Rattle.model.specs.Blocks.{blocks, chartOf, boxListOf}
 use Rattle.model.specs.Chart.{chartSystem}
 use Rattle.model.specs.BoxList.{listedBox}
-use Rattle.model.specs.Theorems.{MinimalReachable, ChartRight}
+use Rattle.model.specs.Theorems.{MinimalReachable, ChartRight, SheetEntries}
 use Rattle.sheet_bytes.specs.Layout.{countersOf, actionsOf}
 use Rattle.sheet_bytes.specs.Decode.{decode}
 use Rattle.sheet.specs.Check.{sheetCheck}
@@ -84,11 +84,13 @@ pub record Demand2 (s : List ℕ) (m : Made) (chart list chart′ list′ : List
   pub chart-accepted : (n : ℕ) → m ≡ Done n → chartCheck (take (chartLength s n) chart′) ≡ Fine
   pub chart-right : (n : ℕ) → m ≡ Done n → ChartRight (decode s) × (take (chartLength s n) chart′ ≡ chartOf (decode s))
   -- and a run on it gives what the run on the sheet gives, for every sequence and buffer
-  pub runs-alike : (n : ℕ) → m ≡ Done n → (w labels : List ℕ)
-      → (chartRan (take (chartLength s n) chart′) w (length labels) ≡ sheetRan s w (length labels))
-      × (runLeft (take (chartLength s n) chart′) w labels ≡ sheetLeft s w labels)
+  pub runs-alike : (n : ℕ) → m ≡ Done n → (w entries : List ℕ)
+      → (chartRan (take (chartLength s n) chart′) w (length entries) ≡ sheetRan s w (length entries))
+      × (runLeft (take (chartLength s n) chart′) w entries ≡ sheetLeft s w entries)
   -- the listed boxes are the classes that are reached
   pub boxes-right : (n : ℕ) → m ≡ Done n → BoxesRight s n chart′ list′
+  -- readings of an accepted sheet with the same entries are equal: they have the same first barred index, or none
+  pub entries-tell : sheetCheck s ≡ Fine → SheetEntries (decode s) (decode s)
   -- the blocks are those of the minimal reachable graph
   pub blocks-minimal : sheetCheck s ≡ Fine → MinimalReachable (decode s)
   -- an accepted sheet with at most 255 blocks is made in buffers that suffice for them, and the answer is their number;
@@ -106,14 +108,19 @@ pub record Demand2 (s : List ℕ) (m : Made) (chart list chart′ list′ : List
 abbrev pub ChartsEqual : List ℕ → ℕ → List ℕ → List ℕ → ℕ → List ℕ → Type 0
 ChartsEqual s n₁ chart₁ t n₂ chart₂ = (chartLength s n₁ ≡ chartLength t n₂) × ((k : ℕ) → k < chartLength s n₁ → getD chart₁ k 0 ≡ getD chart₂ k 0)
 
--- both sheets have as many actions, and every sequence of these actions, however long, reads the same from the two starts
+-- both sheets have as many actions, and every sequence of these actions, however long, reads the same from the two starts: the same entries in the same order
 abbrev pub SameBehaviour : List ℕ → List ℕ → Type 0
-SameBehaviour s t = (actionsOf s ≡ actionsOf t) × ((w : List ℕ) → Below (actionsOf s) w → sheetReading (decode s) w ≡ sheetReading (decode t) w)
+SameBehaviour s t = (actionsOf s ≡ actionsOf t) × ((w : List ℕ) → Below (actionsOf s) w → sheetReading (decode s) w .entries ≡ sheetReading (decode t) w .entries)
+
+-- every sequence of the actions has the same first barred index from the two starts, or none from both
+abbrev pub SameBarred : List ℕ → List ℕ → Type 0
+SameBarred s t = (w : List ℕ) → Below (actionsOf s) w → sheetReading (decode s) w .barred ≡ sheetReading (decode t) w .barred
 
 -- Demand 3, of two makings: accepted sheets with at most 255 blocks each, in buffers that suffice, whatever these held, are both made, and the chart bytes
--- are equal just when the sheets behave alike.
+-- are equal just when the sheets behave alike. Accepted sheets that behave alike have the same actions barred first.
 pub record Demand3 (s t : List ℕ) (m₁ m₂ : Made) (chart₁ list₁ chart₂ list₂ chart₁′ chart₂′ : List ℕ) : Type 0 where
   pub equal-charts : sheetCheck s ≡ Fine → sheetCheck t ≡ Fine
       → blockCount s ≤ 255 → blockCount t ≤ 255
       → Suffices s (blockCount s) chart₁ list₁ → Suffices t (blockCount t) chart₂ list₂
       → (m₁ ≡ Done (blockCount s)) × (m₂ ≡ Done (blockCount t)) × (ChartsEqual s (blockCount s) chart₁′ t (blockCount t) chart₂′ ↔ SameBehaviour s t)
+  pub equal-barred : sheetCheck s ≡ Fine → sheetCheck t ≡ Fine → SameBehaviour s t → SameBarred s t

@@ -11,7 +11,7 @@ use lib.ListN.{length, getD, take, drop}
 use lib.Seq.{take-at, getD-take, ext-getD}
 use borrow.Author.Tests.{ltb-false, le-ltb, lt-ltb}
 use Rattle.integers.specs.LittleEndian.{Bytes, signed-held}
-use Rattle.systems.specs.System.{reading}
+use Rattle.systems.specs.System.{Reading, reading, Below}
 use Rattle.systems.specs.Explored.{Many}
 use Rattle.answers.specs.declared.Checked.{Checked}
 use Rattle.answers.specs.declared.Checked.the-variants.{Fine, Refused}
@@ -23,7 +23,7 @@ use Rattle.model.specs.Chart.{chartSystem, recordAt}
 use Rattle.model.specs.ChartBytes.{chartOf-length}
 use Rattle.model.specs.ChartRules.{block-alike}
 use Rattle.model.specs.BoxList.{listedBox, RangeHeld, BoundsHeld, boxes-listed}
-use Rattle.model.specs.Theorems.{MinimalReachable, minimal-reachable, chart-right, charts-tell}
+use Rattle.model.specs.Theorems.{MinimalReachable, minimal-reachable, chart-right, charts-tell, sheet-entries}
 use Rattle.sheet_bytes.specs.Layout.{countersOf, actionsOf, regionsOf, lowPlace, highPlace}
 use Rattle.sheet_bytes.specs.Decode.{decode, rangeAt, boxAt, regionAt}
 use Rattle.sheet_bytes.specs.Bounds.{each-listed}
@@ -36,7 +36,7 @@ use Rattle.chart.specs.RunChart.{chartRan, chartLeft as runLeft}
 use Rattle.charting.specs.declared.Made.{Made}
 use Rattle.charting.specs.declared.Made.the-variants.{Done}
 use Rattle.charting.specs.Making.{chartSize, listSize, blockChecks, makeChecks, madeBy, writtenBy, many-blocks, rooms-fit, rooms-pass, sheet-passed}
-use Rattle.claims.specs.Claims.{made, chartLeft, listLeft, blockCount, chartLength, Suffices, systemOf, ReadAlike, InListed, BoxesRight, Demand2, Demand3}
+use Rattle.claims.specs.Claims.{made, chartLeft, listLeft, blockCount, chartLength, Suffices, systemOf, ReadAlike, InListed, BoxesRight, SameBehaviour, Demand2, Demand3}
 
 -- what an answer says of the checks
 made-fine : (c : Checked) (s : Sheet) (n : ℕ) → madeBy c s ≡ Done n → (c ≡ Fine) × (n ≡ length (blocks s))
@@ -188,13 +188,13 @@ run-read : (s w : List ℕ) (k : ℕ) → sheetCheck s ≡ Fine → runChecks (a
 unfolding sheetRunCheck
 run-read s w k a = passed a refl
 
-runs-of : (s : List ℕ) → Bytes s → sheetCheck s ≡ Fine → blockCount s ≤ 255 → (w labels : List ℕ)
-    → (chartRan (chartOf (decode s)) w (length labels) ≡ sheetRan s w (length labels)) × (runLeft (chartOf (decode s)) w labels ≡ sheetLeft s w labels)
+runs-of : (s : List ℕ) → Bytes s → sheetCheck s ≡ Fine → blockCount s ≤ 255 → (w entries : List ℕ)
+    → (chartRan (chartOf (decode s)) w (length entries) ≡ sheetRan s w (length entries)) × (runLeft (chartOf (decode s)) w entries ≡ sheetLeft s w entries)
 unfolding sheetRan sheetLeft decode
-runs-of s B a few w labels =
-    let (p, q) = runs-agree (decode s) (accepted s B a) few w labels in
-    let e = run-read s w (length labels) a in
-    (sym p ∙ ap (λ (c : Checked). ranBy c (sheetReading (decode s) w)) e, sym q ∙ ap (λ (c : Checked). leftBy c (sheetReading (decode s) w) labels) e)
+runs-of s B a few w entries =
+    let (p, q) = runs-agree (decode s) (accepted s B a) few w entries in
+    let e = run-read s w (length entries) a in
+    (sym p ∙ ap (λ (c : Checked). ranBy c (sheetReading (decode s) w)) e, sym q ∙ ap (λ (c : Checked). leftBy c (sheetReading (decode s) w) entries) e)
 
 -- an accepted sheet that is refused in buffers that suffice
 only-ground-of : (s chart list : List ℕ) → Bytes s → sheetCheck s ≡ Fine → (blockCount s ≤ 255 → Suffices s (blockCount s) chart list)
@@ -219,13 +219,14 @@ demand-2 s chart list B =
       chart-right = λ n e.
           let M = makes s chart list n e in
           (chart-right (decode s) (accepted s B (M .accepts)) (M .few), chart-written s chart list n e);
-      runs-alike = λ n e w labels.
+      runs-alike = λ n e w entries.
           let M = makes s chart list n e in
           subst
-          (λ (c : List ℕ). (chartRan c w (length labels) ≡ sheetRan s w (length labels)) × (runLeft c w labels ≡ sheetLeft s w labels))
+          (λ (c : List ℕ). (chartRan c w (length entries) ≡ sheetRan s w (length entries)) × (runLeft c w entries ≡ sheetLeft s w entries))
           (sym (chart-written s chart list n e))
-          (runs-of s B (M .accepts) (M .few) w labels);
+          (runs-of s B (M .accepts) (M .few) w entries);
       boxes-right = λ n e. boxes-right-of s chart list n B e;
+      entries-tell = λ a. sheet-entries (decode s) (decode s) (accepted s B a) (accepted s B a);
       blocks-minimal = λ a. minimal-reachable (decode s) (accepted s B a);
       made-few = made-done s chart list;
       made-only = λ n e. let M = makes s chart list n e in (M .count, M .accepts, M .few, M .room);
@@ -253,6 +254,12 @@ same-bytes c d chart₁ chart₂ m n l k p q = (
       sym (front-byte c chart₁ m i p h′) ∙ b i h′ ∙ front-byte d chart₂ n i q (omega arith)),
 )
 
+-- accepted sheets that behave alike have equal readings
+readings-same : (s t : List ℕ) → Bytes s → Bytes t → sheetCheck s ≡ Fine → sheetCheck t ≡ Fine → SameBehaviour s t
+    → (w : List ℕ) → Below (actionsOf s) w → sheetReading (decode s) w ≡ sheetReading (decode t) w
+unfolding sheetReading
+readings-same s t B D a b h w o = sheet-entries (decode s) (decode t) (accepted s B a) (accepted t D b) w (decode s .start) (decode t .start) (h .1 w o)
+
 pub demand-3 : (s t chart₁ list₁ chart₂ list₂ : List ℕ) → Bytes s → Bytes t
     → Demand3 s t (made s chart₁ list₁) (made t chart₂ list₂) chart₁ list₁ chart₂ list₂ (chartLeft s chart₁ list₁) (chartLeft t chart₂ list₂)
 unfolding decode
@@ -265,7 +272,9 @@ demand-3 s t chart₁ list₁ chart₂ list₂ B D =
           same-bytes (chartOf (decode s)) (chartOf (decode t)) (chartLeft s chart₁ list₁) (chartLeft t chart₂ list₂) (chartLength s (blockCount s))
           (chartLength t (blockCount t)) (chart-length s) (chart-length t) (chart-written s chart₁ list₁ (blockCount s) p) (chart-written t chart₂ list₂ (blockCount t) q) in
           let k = charts-tell (decode s) (decode t) (accepted s B a) (accepted t D b) f g in
-          (p, q, (λ h. k .0 (e .1 h), λ h. e .0 (k .1 h)));
+          let r = readings-same s t B D a b in
+          (p, q, (λ h. let (n, l) = k .0 (e .1 h) in (n, λ w o. ap (λ (z : Reading). z .entries) (l w o)), λ h. e .0 (k .1 (h .0, r h))));
+      equal-barred = λ a b h w o. ap (λ (z : Reading). z .barred) (readings-same s t B D a b h w o);
     }
 
 -- the same of answers and buffers that are what the contracts say

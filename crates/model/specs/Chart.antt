@@ -74,6 +74,8 @@ pub record ChartRules (c : List ℕ) : Type 0 where
   pub blocks-some : 1 ≤ blocksOf c
   pub blocks-few : blocksOf c ≤ 255
   pub length-right : length c ≡ recordAt c (blocksOf c)
+  -- a label is not 65,535, which a reading has in the place of a label where an action is barred
+  pub labels-right : (i : ℕ) → i < blocksOf c → labelOf c i < 65535
   pub targets-right : (i a : ℕ) → i < blocksOf c → a < actionsOf c → (targetOf c i a < blocksOf c) ⊎ (targetOf c i a ≡ 255)
   pub named-in-order : (i a : ℕ) → i < blocksOf c → a < actionsOf c
       → (targetOf c i a ≡ 255) ⊎ (targetOf c i a ≤ nextIn c i (nextUnnamed c i) a)

@@ -16,7 +16,7 @@ use Rattle.model.specs.Sheet.{Configuration, Region, Sheet, nowhere, reg
 use Rattle.model.specs.Blocks.{sameClass, blocks, blockAt, targetByte, chartRecord, chartMark, chartOf}
 use Rattle.model.specs.Chart.{actionsOf, blocksOf, recordAt, labelOf, targetOf}
 
-label-lt : {V# A# : ℕ} (l : List Region) (i : ℕ) → Each (RegionFits V# A#) l → getD l i nowhere .label < 65536
+pub label-lt : {V# A# : ℕ} (l : List Region) (i : ℕ) → Each (RegionFits V# A#) l → getD l i nowhere .label < 65535
 label-lt [] i e = omega arith
 label-lt (r ∷ l) zero (each-more f e) = f .label-fits
 label-lt (r ∷ l) (suc i) (each-more f e) = label-lt l i e
@@ -82,7 +82,7 @@ pub chartOf-label : (s : Sheet) → WellFormed s → (i : ℕ) → i < length (b
 unfolding labelOf unsignedAt chartRecord targetsOf regionOf
 chartOf-label s w i h =
     ap (joined 2) (drop-record s i h ∙ append-assoc (split 2 (regionOf s (blockAt s i) .label)) (targetsOf s i) (after s i))
-    ∙ joined-split 2 (regionOf s (blockAt s i) .label) (targetsOf s i ++ after s i) (label-lt (s .regions) (regionNumber s (blockAt s i)) (w .regions-fit))
+    ∙ joined-split 2 (regionOf s (blockAt s i) .label) (targetsOf s i ++ after s i) (omega (arith, label-lt (s .regions) (regionNumber s (blockAt s i)) (w .regions-fit)))
 
 pub chartOf-target : (s : Sheet) (i a : ℕ) → i < length (blocks s) → a < s .actions → targetOf (chartOf s) i a ≡ targetByte s (step s a (blockAt s i))
 unfolding targetOf chartRecord targetsOf

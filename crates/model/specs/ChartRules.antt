@@ -19,6 +19,7 @@ use Rattle.model.specs.Chart.{labelOf, targetOf, blockNamed, chartStep, 
 use Rattle.model.specs.Classes.{label-number, region-eq}
 use Rattle.model.specs.ClassTheorem.{step-bounded, sheet-explorable, blocks-representatives}
 use Rattle.model.specs.ChartBytes.{chartOf-mark, chartOf-actions, chartOf-length, chartOf-label, chartOf-target}
+use Rattle.model.specs.Labels.{sheet-plain}
 use Rattle.model.specs.Rounds.{TargetsRight, named-barred, named-block, chartStep-in, chartStep-out, told-alike}
 
 -- the next unnamed number after a target: nothing new, or one more
@@ -182,7 +183,7 @@ module _ (s : Sheet) (W : WellFormed s) (few : length (blocks s) ≤ 255) where
 
   -- The chart of a well-formed sheet with at most 255 blocks obeys the chart rules.
   pub chart-rules : ChartRules (chartOf s)
-  unfolding chartOf
+  unfolding chartOf sheetSystem
   chart-rules =
       record {
         mark = chartOf-mark s;
@@ -191,6 +192,7 @@ module _ (s : Sheet) (W : WellFormed s) (few : length (blocks s) ≤ 255) where
         blocks-some = blocks-representatives s W .nonempty;
         blocks-few = few;
         length-right = chartOf-length s;
+        labels-right = λ i h. subst (λ (l : ℕ). l < 65535) (sym (chartOf-label s W i h)) (sheet-plain s W (blockAt s i));
         targets-right = chart-targets;
         named-in-order = chart-order;
         named-before = λ i p h. chart-before i h;

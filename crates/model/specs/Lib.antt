@@ -8,6 +8,7 @@ pub mod Finite
 pub mod ClassTheorem
 pub mod BoxList
 pub mod ChartBytes
+pub mod Labels
 pub mod Rounds
 pub mod ChartRules
 pub mod ChartEquality

@@ -14,7 +14,7 @@ use lib.ListN.{length}
 use Rattle.systems.specs.Search.{all}
 use Rattle.systems.specs.System.{reading, Alike, Below, below-nil, below-cons}
 use Rattle.systems.specs.Laws.{both, all-true, below-suc, least-tells, eqb-tells}
-use Rattle.systems.specs.Alike.{reading-open, reading-barred, Both, both-barred, both-open, AlikeTo, alike-to-zero, alike-to-suc, alike-to-le, alike-depths, alike-to-equivalence, before-inj, before-stopped, alone-inj}
+use Rattle.systems.specs.Alike.{reading-parts, barred-differs, open-next, Both, both-barred, both-open, AlikeTo, alike-to-zero, alike-to-suc, alike-to-le, alike-depths, alike-to-equivalence}
 use Rattle.systems.specs.Counting.{numbers, numbers-length, numbers-mem, Finer, classes, classes-finer}
 use Rattle.systems.specs.Moore.{Chain, changes, changed, changed-differs, changes-le, settled-from, Tested, depths-chain, alike-length}
 use Rattle.model.specs.Chart.{actionsOf, blocksOf, labelOf, targetOf, blockNamed, chartStep, chartSystem, ToldApart, sameTarget, refines, roundClass}
@@ -291,10 +291,7 @@ module _ (c : List ℕ) (few : blocksOf c ≤ 255) (right : TargetsRight c) wher
             sequence = a ∷ [];
             of-actions = below-cons h below-nil;
             short = omega arith;
-            differs =
-                λ e.
-                before-stopped (labelOf c i) (labelOf c j) (reading (chartSystem c) [] x)
-                (sym (reading-open (chartSystem c) a [] i x p) ∙ e ∙ reading-barred (chartSystem c) a [] j q);
+            differs = λ e. barred-differs (chartSystem c) (chartSystem c) a [] i j x p q e;
           })
       go none (some y) p q =
           inr
@@ -302,10 +299,7 @@ module _ (c : List ℕ) (few : blocksOf c ≤ 255) (right : TargetsRight c) wher
             sequence = a ∷ [];
             of-actions = below-cons h below-nil;
             short = omega arith;
-            differs =
-                λ e.
-                before-stopped (labelOf c j) (labelOf c i) (reading (chartSystem c) [] y)
-                (sym (reading-open (chartSystem c) a [] j y q) ∙ sym e ∙ reading-barred (chartSystem c) a [] i p);
+            differs = λ e. barred-differs (chartSystem c) (chartSystem c) a [] j i y q p (sym e);
           })
       go (some x) (some y) p q =
           ⊎-elim
@@ -316,19 +310,14 @@ module _ (c : List ℕ) (few : blocksOf c ≤ 255) (right : TargetsRight c) wher
             sequence = a ∷ d .sequence;
             of-actions = below-cons h (d .of-actions);
             short = omega (arith, d .short);
-            differs =
-                λ e.
-                d .differs
-                (before-inj (labelOf c i) (labelOf c j) (reading (chartSystem c) (d .sequence) x) (reading (chartSystem c) (d .sequence) y)
-                (sym (reading-open (chartSystem c) a (d .sequence) i x p) ∙ e ∙ reading-open (chartSystem c) a (d .sequence) j y q)
-                .1);
+            differs = λ e. d .differs (open-next (chartSystem c) (chartSystem c) a (d .sequence) i j x y p q e);
           }))
           (f x y (chart-closed a i x hi p) (chart-closed a j y hj q))
 
   labels-apart : (k i j : ℕ) → (labelOf c i ≡ labelOf c j → ⊥) → ApartIn c k i j
-  unfolding chartSystem reading
+  unfolding chartSystem
   labels-apart k i j n =
-      record { sequence = []; of-actions = below-nil; short = omega arith; differs = λ e. n (alone-inj (labelOf c i) (labelOf c j) e) }
+      record { sequence = []; of-actions = below-nil; short = omega arith; differs = λ e. n (reading-parts (chartSystem c) (chartSystem c) [] i j e .0) }
 
   -- Blocks agree to depth k, or a sequence of at most k actions tells them apart.
   pub apart-or : (k i j : ℕ) → i < blocksOf c → j < blocksOf c → AlikeTo k (chartSystem c) (chartSystem c) i j ⊎ ApartIn c k i j

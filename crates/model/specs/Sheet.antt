@@ -125,8 +125,9 @@ pub data MoveFits (V# : ℕ) : Move → Type 0 where
   barred-fits : MoveFits V# Barred
   open-fits : {target : ℕ} {rules : List Rule} → target < 256 → length rules ≡ V# → Each (RuleFits V#) rules → MoveFits V# (Open target rules)
 
+-- A region within its limits. Its label is not 65,535, which a reading has in the place of a label where an action is barred.
 pub record RegionFits (V# A# : ℕ) (r : Region) : Type 0 where
-  pub label-fits : r .label < 65536
+  pub label-fits : r .label < 65535
   pub state-fits : r .box .state < 256
   pub ranges-count : length (r .box .ranges) ≡ V#
   pub ranges-fit : Each RangeFits (r .box .ranges)

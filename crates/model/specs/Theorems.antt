@@ -1,5 +1,5 @@
 -- The theorems that the product rests on, on the definitions: classes are what reads alike, the blocks are the minimal reachable graph, the chart obeys its
--- rules and reads what the sheet reads, and charts are equal just when the behaviour is. Statements first, then their proofs.
+-- rules and reads what the sheet reads, charts are equal just when the behaviour is, and entries tell it. Statements first, then their proofs.
 use mathlib.Core.Path.{_≡_, refl, sym, ap, _∙_}
 use mathlib.Core.Logic.{_↔_}
 use mathlib.Core.Bool.{true}
@@ -10,11 +10,13 @@ use lib.ListN.{length}
 use borrow.Author.Tests.{ltb-true, lt-ltb}
 use Rattle.systems.specs.System.{Reached, reading, Alike, Below}
 use Rattle.systems.specs.Alike.{Bisimulation, alike-bisimulation, bisimilar-alike}
+use Rattle.systems.specs.Entries.{entries-tell}
 use Rattle.systems.specs.Explored.{Many, explored, explored-one, refused}
 use Rattle.model.specs.Sheet.{Configuration, Sheet, inBox, sheetSystem, sheetReading, Covered, WellFormed}
 use Rattle.model.specs.Blocks.{classOf, sameClass, blocks, blockAt, tooMany, chartOf}
-use Rattle.model.specs.Chart.{ChartRules, chartReading}
+use Rattle.model.specs.Chart.{chartSystem, ChartRules, chartReading}
 use Rattle.model.specs.ClassTheorem.{class-members, sheet-explorable, reached-covered, blocks-representatives}
+use Rattle.model.specs.Labels.{sheet-plain, chart-plain}
 use Rattle.model.specs.ChartRules as Rules
 use Rattle.model.specs.ChartEquality.{chart-equality}
 
@@ -58,6 +60,15 @@ pub record ChartRight (s : Sheet) : Type 0 where
 -- Charts are equal just when both sheets have as many actions and all sequences of these actions read the same (demand 3).
 abbrev pub ChartsTell : Sheet → Sheet → Type 0
 ChartsTell s t = (chartOf s ≡ chartOf t) ↔ ((s .actions ≡ t .actions) × ((w : List ℕ) → Below (s .actions) w → sheetReading s w ≡ sheetReading t w))
+
+-- Equal entries are equal readings, of two sheets and of two charts: the entries tell the first barred action.
+abbrev pub SheetEntries : Sheet → Sheet → Type 0
+SheetEntries s t = (w : List ℕ) (x y : Configuration) → reading (sheetSystem s) w x .entries ≡ reading (sheetSystem t) w y .entries
+    → reading (sheetSystem s) w x ≡ reading (sheetSystem t) w y
+
+abbrev pub ChartEntries : List ℕ → List ℕ → Type 0
+ChartEntries c d = (w : List ℕ) (i j : ℕ) → reading (chartSystem c) w i .entries ≡ reading (chartSystem d) w j .entries
+    → reading (chartSystem c) w i ≡ reading (chartSystem d) w j
 
 module _ (s : Sheet) (W : WellFormed s) where
   pub classes-exact : ClassesExact s
@@ -121,3 +132,9 @@ module _ (s : Sheet) (W : WellFormed s) where
 
 pub charts-tell : (s t : Sheet) → WellFormed s → WellFormed t → length (blocks s) ≤ 255 → length (blocks t) ≤ 255 → ChartsTell s t
 charts-tell = chart-equality
+
+pub sheet-entries : (s t : Sheet) → WellFormed s → WellFormed t → SheetEntries s t
+sheet-entries s t W V# = entries-tell (sheetSystem s) (sheetSystem t) (sheet-plain s W) (sheet-plain t V#)
+
+pub chart-entries : (c d : List ℕ) → ChartRules c → ChartRules d → ChartEntries c d
+chart-entries c d R Q = entries-tell (chartSystem c) (chartSystem d) (chart-plain c R) (chart-plain d Q)

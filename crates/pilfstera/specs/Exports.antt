@@ -2,8 +2,8 @@
 use Prim.Native.Nat.{ℕ}
 use Rattle.answers.specs.declared.Checked.{Checked}
 use Rattle.answers.specs.declared.Checked.the-variants.{Fine, Refused}
-use Rattle.answers.specs.declared.Ending.{Ending}
-use Rattle.answers.specs.declared.Ending.the-variants.{Whole, Barred}
+use Rattle.answers.specs.declared.FirstBarred.{FirstBarred}
+use Rattle.answers.specs.declared.FirstBarred.the-variants.{Nothing, At}
 use Rattle.answers.specs.declared.Ran.{Ran}
 use Rattle.charting.specs.declared.Made.{Made}
 
@@ -16,23 +16,23 @@ unfoldable pub checkReturned : Checked → ℕ
 checkReturned Fine = 0
 checkReturned (Refused n p) = p
 
--- a run: 0 and the number of labels written where it was done
+-- a run: 0 and the number of entries written where it was done
 unfoldable pub runNumber : Ran → ℕ
-runNumber (Ran.Done l e) = 0
+runNumber (Ran.Done n b) = 0
 runNumber (Ran.Refused n p) = n
 
 unfoldable pub runReturned : Ran → ℕ
-runReturned (Ran.Done l e) = l
+runReturned (Ran.Done n b) = n
 runReturned (Ran.Refused n p) = p
 
--- the index of the barred action, or the length of the sequence where nothing was barred
-unfoldable pub endingIndex : Ending → ℕ → ℕ
-endingIndex Whole actions = actions
-endingIndex (Barred k) actions = k
+-- the index of the first barred action, or the length of the sequence where nothing was barred
+unfoldable pub barredIndex : FirstBarred → ℕ → ℕ
+barredIndex Nothing actions = actions
+barredIndex (At k) actions = k
 
 -- the same of a run; where it was refused, what the parameter held before
 unfoldable pub runBarred : Ran → ℕ → ℕ → ℕ
-runBarred (Ran.Done l e) actions old = endingIndex e actions
+runBarred (Ran.Done n b) actions old = barredIndex b actions
 runBarred (Ran.Refused n p) actions old = old
 
 -- making a chart: 0 and the number of blocks where it was done

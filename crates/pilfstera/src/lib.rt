@@ -10,9 +10,9 @@ ghost use Rattle.sheet.specs.RunSheet.{sheetRan, sheetLeft};
 ghost use Rattle.chart.specs.Check.{chartCheck};
 ghost use Rattle.chart.specs.RunChart.{chartRan, chartLeft};
 ghost use Rattle.charting.specs.Making.{makeChecks, madeBy, writtenBy};
-ghost use Rattle.pilfstera.specs.Exports.{checkNumber, checkReturned, runNumber, runReturned, runBarred, makeNumber, makeReturned, endingIndex};
+ghost use Rattle.pilfstera.specs.Exports.{checkNumber, checkReturned, runNumber, runReturned, runBarred, makeNumber, makeReturned, barredIndex};
 use answers::Checked;
-use answers::Ending;
+use answers::FirstBarred;
 use answers::Ran;
 use charting::Made;
 
@@ -36,26 +36,29 @@ fn told_check(checked: Checked, returned: &mut usize) -> u8
     }
 }
 
-// Where a reading ended.
-fn ending_index(ending: Ending, actions: usize) -> usize
-    ensures { λ r. ⌜ r ≡ endingIndex ending actions ⌝ }
+// Which of so many actions was barred first.
+fn barred_index(first: FirstBarred, actions: usize) -> usize
+    ensures { λ r. ⌜ r ≡ barredIndex first actions ⌝ }
 {
-    match ending {
-        Ending::Whole => actions,
-        Ending::Barred { index } => index,
+    match first {
+        FirstBarred::Nothing => actions,
+        FirstBarred::At { index } => index,
     }
 }
 
-// Stores what a run of so many actions returns and where it was barred, and gives its number.
+// Stores what a run of so many actions returns and which was barred first, and gives its number.
 fn told_run(ran: Ran, actions: usize, returned: &mut usize, barred: &mut usize) -> u8
     ensures { λ r. ⌜ r ≡ runNumber ran ⌝ }
     ensures { λ _. ⌜ now (returned .exit) ≡ runReturned ran ⌝ }
     ensures { λ _. ⌜ now (barred .exit) ≡ runBarred ran actions (now (barred .entry)) ⌝ }
 {
     match ran {
-        Ran::Done { labels, ending } => {
-            *returned = labels;
-            *barred = ending_index(ending, actions);
+        Ran::Done {
+            entries,
+            barred: first,
+        } => {
+            *returned = entries;
+            *barred = barred_index(first, actions);
             0
         }
         Ran::Refused {
@@ -102,16 +105,16 @@ pub extern "C" fn pilfstera_check_sheet(sheet: &[u8], returned: &mut usize) -> u
 pub extern "C" fn pilfstera_run_sheet(
     sheet: &[u8],
     actions: &[u8],
-    labels: &mut [u16],
+    entries: &mut [u16],
     returned: &mut usize,
     barred: &mut usize,
 ) -> u8
-    ensures { λ r. ⌜ r ≡ runNumber (sheetRan (now (sheet .entry)) (now (actions .entry)) (length (now (labels .entry)))) ⌝ }
-    ensures { λ _. ⌜ now (labels .exit) ≡ sheetLeft (now (sheet .entry)) (now (actions .entry)) (now (labels .entry)) ⌝ }
-    ensures { λ _. ⌜ now (returned .exit) ≡ runReturned (sheetRan (now (sheet .entry)) (now (actions .entry)) (length (now (labels .entry)))) ⌝ }
-    ensures { λ _. ⌜ now (barred .exit) ≡ runBarred (sheetRan (now (sheet .entry)) (now (actions .entry)) (length (now (labels .entry)))) (length (now (actions .entry))) (now (barred .entry)) ⌝ }
+    ensures { λ r. ⌜ r ≡ runNumber (sheetRan (now (sheet .entry)) (now (actions .entry)) (length (now (entries .entry)))) ⌝ }
+    ensures { λ _. ⌜ now (entries .exit) ≡ sheetLeft (now (sheet .entry)) (now (actions .entry)) (now (entries .entry)) ⌝ }
+    ensures { λ _. ⌜ now (returned .exit) ≡ runReturned (sheetRan (now (sheet .entry)) (now (actions .entry)) (length (now (entries .entry)))) ⌝ }
+    ensures { λ _. ⌜ now (barred .exit) ≡ runBarred (sheetRan (now (sheet .entry)) (now (actions .entry)) (length (now (entries .entry)))) (length (now (actions .entry))) (now (barred .entry)) ⌝ }
 {
-    let ran = sheet::run(sheet, actions, labels);
+    let ran = sheet::run(sheet, actions, entries);
     told_run(ran, actions.len(), returned, barred)
 }
 
@@ -129,16 +132,16 @@ pub extern "C" fn pilfstera_check_chart(chart: &[u8], returned: &mut usize) -> u
 pub extern "C" fn pilfstera_run_chart(
     chart: &[u8],
     actions: &[u8],
-    labels: &mut [u16],
+    entries: &mut [u16],
     returned: &mut usize,
     barred: &mut usize,
 ) -> u8
-    ensures { λ r. ⌜ r ≡ runNumber (chartRan (now (chart .entry)) (now (actions .entry)) (length (now (labels .entry)))) ⌝ }
-    ensures { λ _. ⌜ now (labels .exit) ≡ chartLeft (now (chart .entry)) (now (actions .entry)) (now (labels .entry)) ⌝ }
-    ensures { λ _. ⌜ now (returned .exit) ≡ runReturned (chartRan (now (chart .entry)) (now (actions .entry)) (length (now (labels .entry)))) ⌝ }
-    ensures { λ _. ⌜ now (barred .exit) ≡ runBarred (chartRan (now (chart .entry)) (now (actions .entry)) (length (now (labels .entry)))) (length (now (actions .entry))) (now (barred .entry)) ⌝ }
+    ensures { λ r. ⌜ r ≡ runNumber (chartRan (now (chart .entry)) (now (actions .entry)) (length (now (entries .entry)))) ⌝ }
+    ensures { λ _. ⌜ now (entries .exit) ≡ chartLeft (now (chart .entry)) (now (actions .entry)) (now (entries .entry)) ⌝ }
+    ensures { λ _. ⌜ now (returned .exit) ≡ runReturned (chartRan (now (chart .entry)) (now (actions .entry)) (length (now (entries .entry)))) ⌝ }
+    ensures { λ _. ⌜ now (barred .exit) ≡ runBarred (chartRan (now (chart .entry)) (now (actions .entry)) (length (now (entries .entry)))) (length (now (actions .entry))) (now (barred .entry)) ⌝ }
 {
-    let ran = chart::run(chart, actions, labels);
+    let ran = chart::run(chart, actions, entries);
     told_run(ran, actions.len(), returned, barred)
 }
 

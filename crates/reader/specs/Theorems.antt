@@ -15,7 +15,7 @@ use Rattle.model.specs.Chart.{actionsOf, blocksOf, recordAt, labelOf, targetOf}
 use Rattle.chart_bytes.specs.Header.{headerCheck}
 use Rattle.chart_bytes.specs.Shape.{Shaped, record-fits}
 use Rattle.chart_bytes.specs.HeaderLaws.{header-passed}
-use Rattle.chart.specs.Check.{targetsCheck, numbersCheck, barsCheck, classesCheck, formCheck, chartCheck}
+use Rattle.chart.specs.Check.{limitsCheck, numbersCheck, barsCheck, classesCheck, formCheck, chartCheck}
 use Rattle.reader.specs.declared.Handed.{Handed}
 use Rattle.reader.specs.declared.Handed.the-variants.{Block, NoneLeft}
 use Rattle.reader.specs.declared.Step.{Step}
@@ -53,7 +53,7 @@ header-fine : (c : List ℕ) → chartCheck c ≡ Fine → headerCheck c ≡ Fin
 unfolding chartCheck formCheck
 header-fine c e =
     let (f, r) = then-fine (formCheck c) (classesCheck c) e in
-    let (h, q) = then-fine (headerCheck c) (andThen (targetsCheck c) (andThen (numbersCheck c) (barsCheck c))) f in
+    let (h, q) = then-fine (headerCheck c) (andThen (limitsCheck c) (andThen (numbersCheck c) (barsCheck c))) f in
     h
 
 at-block : (c : List ℕ) → chartCheck c ≡ Fine → (i : ℕ) → i < blocksOf c → stepAt c i ≡ blockStep c i

@@ -9,7 +9,7 @@ use native.Mathlib.Omega.{arith}
 use lib.Dec.{T, lit<, eqb, leb, ltb, eqb→eq, eqb-refl, leb→le}
 use lib.ListN.{length, getD, drop, List·getD-eq-default}
 use borrow.Author.Tests.{ltb-true, ltb-false}
-use Rattle.integers.specs.LittleEndian.{Bytes, unsignedAt, joined-lt, bytes-drop}
+use Rattle.integers.specs.LittleEndian.{Bytes}
 use Rattle.systems.specs.Search.{any, run}
 use Rattle.systems.specs.Laws.{told, true-is, both, any-true}
 use Rattle.systems.specs.Lists.{length-each, getD-each}
@@ -26,7 +26,7 @@ use Rattle.sheet_bytes.specs.Decode.{listed, rangeAt, boxAt, moveAt, regionAt, 
 use Rattle.sheet_bytes.specs.Shape.{Shaped}
 use Rattle.sheet_bytes.specs.Bounds.{each-listed}
 use Rattle.sheet_form.specs.Form.{from-to, checkHeader, checkCounts, checkLength, checkRule, checkZeroRule, checkMove, checkFields}
-use Rattle.sheet_form.specs.Fits.{moves-fit, range-fits}
+use Rattle.sheet_form.specs.Fits.{label-fits, moves-fit, range-fits}
 use Rattle.sheet.specs.Check.{checkLabel, checkOverlap, covered, checkStart, every, lands, checkLanding, overlap, sheetCheck}
 use Rattle.sheet.specs.Overlap.{overlap-out, regions-apart}
 
@@ -158,15 +158,11 @@ module _ (s : List ℕ) (B : Bytes s) (e : sheetCheck s ≡ Fine) where
   S : Stages s
   S = stages s e
 
-  label-lt : (i : ℕ) → labelAt s i < 65536
-  unfolding labelAt unsignedAt
-  label-lt i = joined-lt 2 (drop (regionPlace s i) s) (bytes-drop s (regionPlace s i) B)
-
   region-fits : (i : ℕ) → i < regionsOf s → RegionFits (countersOf s) (actionsOf s) (regionAt s i)
   unfolding regionAt boxAt stateAt
   region-fits i h =
       record {
-        label-fits = label-lt i;
+        label-fits = label-fits s B (S .fields) i h;
         state-fits = B (regionPlace s i + 2);
         ranges-count = length-each (rangeAt s i) (countersOf s);
         ranges-fit = each-listed (rangeAt s i) (countersOf s) (λ v k. range-fits s B (S .fields) i v h k);
@@ -336,8 +332,9 @@ early-move V# p at = early-then _ _ (early-demand _ 4 at (lit< tt)) (go (eqb (ki
 early-fields : (s : List ℕ) (i : ℕ) → Early (checkFields s i)
 unfolding checkFields
 early-fields s i =
-    early-then _ _ (early-each _ (countersOf s) (λ v. early-demand _ 4 (highPlace s i v) (lit< tt)))
-    (early-each _ (actionsOf s) (λ a. early-move (countersOf s) (movePart s i a) (movePlace s i a)))
+    early-then _ _ (early-demand _ 4 (regionPlace s i) (lit< tt))
+    (early-then _ _ (early-each _ (countersOf s) (λ v. early-demand _ 4 (highPlace s i v) (lit< tt)))
+    (early-each _ (actionsOf s) (λ a. early-move (countersOf s) (movePart s i a) (movePlace s i a))))
 
 -- Bytes that are refused 5 to 8 are no well-formed sheet.
 pub refused-late : (s : List ℕ) (n p : ℕ) → sheetCheck s ≡ Refused n p → 5 ≤ n → WellFormed (decode s) → ⊥

@@ -1,6 +1,6 @@
--- The walk of an action sequence on an accepted sheet: the code's configuration, its region, and the labels written.
+-- The walk of an action sequence on an accepted sheet: the code's configuration, its region, and the entries written.
 use mathlib.Core.Path.{_≡_, sym, ap, subst, _∙_}
-use mathlib.Core.Bool.{true, _&&_}
+use mathlib.Core.Bool.{true, false, _&&_}
 use mathlib.Core.List.{List}
 use mathlib.Core.Option.{some, none}
 use Prim.Native.Nat.{ℕ, zero, suc, _+_, _≤_, _<_}
@@ -14,10 +14,11 @@ use Rattle.integers.specs.declared.Range.{Range}
 use Rattle.integers.specs.Range.{contains, contains-le, Within, within-zero, RangeWithin}
 use Rattle.systems.specs.Laws.{both}
 use Rattle.answers.specs.declared.Checked.the-variants.{Fine}
-use Rattle.answers.specs.declared.Ending.the-variants.{Whole, Barred as BarredAt}
+use Rattle.answers.specs.declared.FirstBarred.{FirstBarred}
+use Rattle.answers.specs.declared.FirstBarred.the-variants.{Nothing}
 use Rattle.answers.specs.declared.Ran.the-variants.{Done}
 use Rattle.answers.specs.Stages.{then-fine}
-use Rattle.answers.specs.Run.{runChecks, ranBy, leftBy}
+use Rattle.answers.specs.Run.{runChecks, notedAt, ranBy, leftBy}
 use Rattle.answers.specs.Sequence.{Runs, sequence-passed}
 use Rattle.answers.specs.Walk as Any
 use Rattle.model.specs.declared.Rule.{Rule}
@@ -38,6 +39,7 @@ use Rattle.sheet_bytes.specs.Three.{Read, firsts, rangesMeant, valuesMeant, rul
 use Rattle.sheet_bytes.specs.Space.{RulesSafe, ValuesWithin, allThree, landThree, land-meant, fits-safe}
 use Rattle.sheet_bytes.specs.Bounds.{RangesWithin, box-within}
 use Rattle.sheet_form.specs.Fits.{moves-fit}
+use Rattle.sheet.specs.declared.walk.Acted.{Acted}
 use Rattle.sheet.specs.Check.{sheetCheck}
 use Rattle.sheet.specs.Landing.{Passed}
 use Rattle.sheet.specs.Shares.{countable}
@@ -95,6 +97,12 @@ pub record At (s : List ℕ) (x : Config) (i : ℕ) : Type 0 where
   pub number : i ≡ regionNumber (decode s) (configMeant (countersOf s) x)
   pub there : i < regionsOf s
   pub spare : Spare (countersOf s) (x .values)
+
+-- What one action does from a configuration: where the walk is then, the entry that it writes, and whether it was barred.
+pub record Acts (s : List ℕ) (x : Config) (a : ℕ) (r : Acted) : Type 0 where
+  pub place : At s (r .config) (r .region)
+  pub took : Any.Took (sheetSystem (decode s)) (configMeant (countersOf s) x) (step (decode s) a (configMeant (countersOf s) x))
+      (configMeant (countersOf s) (r .config)) (r .entry) (r .barred)
 
 -- a padded rule past the counters sets to 0
 spare-rule : (f : ℕ → Rule) (n v : ℕ) (old : List ℤ) → n ≤ v → applied (padded zeroRule f n v) old ≡ pos 0
@@ -207,54 +215,62 @@ module _ (s : List ℕ) (B : Bytes s) (e : sheetCheck s ≡ Fine) where
         let g' : j ≡ regionNumber (decode s) (configMeant (countersOf s) (landThree m x)) = g ∙ ap (λ (z : Config). regionNumber (decode s) (configMeant (countersOf s) z)) r in
         record { number = g; there = omega (arith, l, g', n); spare = subst (λ (z : Config). Spare (countersOf s) (z .values)) (sym r) land-spare }
 
--- The walk on a sheet that passed its check: where it is, and what it has written.
-pub record Walk (s w old : List ℕ) (n : ℕ) (x : Config) (i : ℕ) (ls : List ℕ) : Type 0 where
+    -- So one action does what its move says: a barred one leaves everything as it is,
+    pub acts-barred : m .kind ≡ Barred → Acts s x a (record { config = x; region = i; entry = 65535; barred = true })
+    acts-barred q = record { place = k; took = Any.took-barred (sheetSystem (decode s)) (configMeant (countersOf s) x) (does-nothing q) }
+
+    -- an open one leads where the code lands.
+    pub acts-open : (y : Config) (j v : ℕ) → m .kind ≡ Open → y ≡ landThree m x → j ≡ regionNumber (decode s) (configMeant (countersOf s) y) → v ≡ labelAt s j
+        → Acts s x a (record { config = y; region = j; entry = v; barred = false })
+    acts-open y j v q r g u =
+        let p = at-land y j q r g in
+        record {
+          place = p;
+          took =
+              Any.took-open (sheetSystem (decode s)) (configMeant (countersOf s) x) (configMeant (countersOf s) y) v
+              (does-land q ∙ ap (λ (z : Config). some (configMeant (countersOf s) z)) (sym r)) (at-label y j v p u);
+        }
+
+-- The walk on a sheet that passed its check: where it is, which action was barred first, and what it has written.
+pub record Walk (s w old : List ℕ) (n : ℕ) (x : Config) (i : ℕ) (first : FirstBarred) (ls : List ℕ) : Type 0 where
   pub place : At s x i
-  pub walked : Any.Walk (sheetSystem (decode s)) (startOf s) w old n (configMeant (countersOf s) x) ls
+  pub walked : Any.Walk (sheetSystem (decode s)) (startOf s) w old n (configMeant (countersOf s) x) first ls
 
 module _ (s w : List ℕ) (B : Bytes s) (e : sheetCheck s ≡ Fine) where
   pub walk-start : (old : List ℕ) (x : Config) (i v : ℕ) → 0 < length old → x ≡ startThree s
-      → i ≡ regionNumber (decode s) (configMeant (countersOf s) x) → v ≡ labelAt s i → Walk s w (set old 0 v) 0 x i (set old 0 v)
+      → i ≡ regionNumber (decode s) (configMeant (countersOf s) x) → v ≡ labelAt s i → Walk s w (set old 0 v) 0 x i Nothing (set old 0 v)
   walk-start old x i v h d q r =
       let k = at-start s B e x i d q in
       let y : configMeant (countersOf s) x ≡ startOf s = ap (configMeant (countersOf s)) d ∙ start-meant s (stages s e .shape) in
       record {
         place = k;
-        walked = subst (λ (z : Configuration). Any.Walk (sheetSystem (decode s)) (startOf s) w (set old 0 v) 0 z (set old 0 v)) (sym y)
+        walked = subst (λ (z : Configuration). Any.Walk (sheetSystem (decode s)) (startOf s) w (set old 0 v) 0 z Nothing (set old 0 v)) (sym y)
             (Any.walk-start (sheetSystem (decode s)) (startOf s) w old v h
             (at-label s B e x i v k r ∙ ap (λ (z : Configuration). sheetSystem (decode s) .label z) y));
       }
 
-  pub walk-old : (old : List ℕ) (v n : ℕ) (x : Config) (i : ℕ) (ls : List ℕ) → Walk s w (set old 0 v) n x i ls → Walk s w old n x i ls
-  walk-old old v n x i ls k =
-      record { place = k .place; walked = Any.walk-old (sheetSystem (decode s)) (startOf s) w old v n (configMeant (countersOf s) x) ls (k .walked) }
+  pub walk-old : (old : List ℕ) (v n : ℕ) (x : Config) (i : ℕ) (first : FirstBarred) (ls : List ℕ) → Walk s w (set old 0 v) n x i first ls → Walk s w old n x i first ls
+  walk-old old v n x i first ls k =
+      record { place = k .place; walked = Any.walk-old (sheetSystem (decode s)) (startOf s) w old v n (configMeant (countersOf s) x) first ls (k .walked) }
 
-  -- one open action
-  pub walk-step : (old ls : List ℕ) (n v : ℕ) (x y : Config) (i j : ℕ) (m : RegionMove) → Walk s w old n x i ls → n < length w → n + 1 < length ls
-      → getD w n 0 < actionsOf s → m ≡ moveThree (countersOf s) (movePart s i (getD w n 0)) → m .kind ≡ Open → y ≡ landThree m x
-      → j ≡ regionNumber (decode s) (configMeant (countersOf s) y) → v ≡ labelAt s j → Walk s w old (n + 1) y j (set ls (n + 1) v)
+  -- one action
+  pub walk-step : (old ls : List ℕ) (n : ℕ) (x : Config) (i : ℕ) (first next : FirstBarred) (r : Acted) → Walk s w old n x i first ls → n < length w → n + 1 < length ls
+      → Acts s x (getD w n 0) r → next ≡ notedAt first n (r .barred) → Walk s w old (n + 1) (r .config) (r .region) next (set ls (n + 1) (r .entry))
   unfolding sheetSystem
-  walk-step old ls n v x y i j m k hw hl ha d q r g u =
-      let a = at-land s B e x i (getD w n 0) (k .place) ha m d y j q r g in
+  walk-step old ls n x i first next r k hw hl a d =
       record {
-        place = a;
-        walked = Any.walk-step (sheetSystem (decode s)) (startOf s) w old ls n v (configMeant (countersOf s) x) (configMeant (countersOf s) y) (k .walked) hw hl
-            (does-land s B e x i (getD w n 0) (k .place) ha m d q ∙ ap (λ (z : Config). some (configMeant (countersOf s) z)) (sym r)) (at-label s B e y j v a u);
+        place = a .place;
+        walked =
+            subst (λ (f : FirstBarred). Any.Walk (sheetSystem (decode s)) (startOf s) w old (n + 1) (configMeant (countersOf s) (r .config)) f (set ls (n + 1) (r .entry))) (sym d)
+            (Any.walk-step (sheetSystem (decode s)) (startOf s) w old ls n (r .entry) (r .barred) (configMeant (countersOf s) x) (configMeant (countersOf s) (r .config)) first (k .walked)
+            hw hl (a .took));
       }
 
-  -- the walk ends at a barred action,
-  pub walk-barred : (old ls : List ℕ) (n : ℕ) (x : Config) (i : ℕ) (m : RegionMove) → Walk s w old n x i ls → n < length w → n < length ls
-      → getD w n 0 < actionsOf s → m ≡ moveThree (countersOf s) (movePart s i (getD w n 0)) → m .kind ≡ Barred
-      → (Done (n + 1) (BarredAt n) ≡ ranBy Fine (sheetReading (decode s) w)) × (ls ≡ leftBy Fine (sheetReading (decode s) w) old)
-  unfolding sheetSystem sheetReading decode
-  walk-barred old ls n x i m k hw hl ha d q =
-      Any.walk-barred (sheetSystem (decode s)) (startOf s) w old ls n (configMeant (countersOf s) x) (k .walked) hw hl (does-nothing s B e x i (getD w n 0) (k .place) ha m d q)
-
-  -- or after the last action.
-  pub walk-whole : (old ls : List ℕ) (n : ℕ) (x : Config) (i : ℕ) → Walk s w old n x i ls → n ≡ length w → n < length ls
-      → (Done (length w + 1) Whole ≡ ranBy Fine (sheetReading (decode s) w)) × (ls ≡ leftBy Fine (sheetReading (decode s) w) old)
+  -- The walk ends after the last action.
+  pub walk-done : (old ls : List ℕ) (n : ℕ) (x : Config) (i : ℕ) (first : FirstBarred) → Walk s w old n x i first ls → n ≡ length w → n < length ls
+      → (Done (length w + 1) first ≡ ranBy Fine (sheetReading (decode s) w)) × (ls ≡ leftBy Fine (sheetReading (decode s) w) old)
   unfolding sheetReading decode
-  walk-whole old ls n x i k q h = Any.walk-whole (sheetSystem (decode s)) (startOf s) w old ls n (configMeant (countersOf s) x) (k .walked) q h
+  walk-done old ls n x i first k q h = Any.walk-done (sheetSystem (decode s)) (startOf s) w old ls n (configMeant (countersOf s) x) first (k .walked) q h
 
 -- what the readers answer, by the sheet's own counts
 pub number-read : {s : List ℕ} {shape : Shape} → Read s shape → (x : Config) (i : ℕ) → i ≡ regionNumber (decode s) (configMeant (shape .counters) x)

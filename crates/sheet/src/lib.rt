@@ -75,14 +75,15 @@ fn check_run(s: &[u8], actions: &[u8], room: usize) -> Checked
     check_sequence(actions, shape.actions, room)
 }
 
-// The run of an action sequence on a sheet: the labels read are written from the buffer's front, unless something is refused.
-pub fn run(s: &[u8], actions: &[u8], labels: &mut [u16]) -> Ran
-    ensures { λ r. ⌜ r ≡ sheetRan (now (s .entry)) (now (actions .entry)) (length (now (labels .entry))) ⌝ }
-    ensures { λ r. ⌜ now (labels .exit) ≡ sheetLeft (now (s .entry)) (now (actions .entry)) (now (labels .entry)) ⌝ }
+// The run of an action sequence on a sheet: the label of the start and an entry for each action are written from the buffer's front,
+// unless something is refused.
+pub fn run(s: &[u8], actions: &[u8], entries: &mut [u16]) -> Ran
+    ensures { λ r. ⌜ r ≡ sheetRan (now (s .entry)) (now (actions .entry)) (length (now (entries .entry))) ⌝ }
+    ensures { λ r. ⌜ now (entries .exit) ≡ sheetLeft (now (s .entry)) (now (actions .entry)) (now (entries .entry)) ⌝ }
 {
-    let checked = check_run(s, actions, labels.len());
+    let checked = check_run(s, actions, entries.len());
     let Checked::Refused { number, returned } = checked else {
-        return walk::walk(s, shape_of(s), actions, labels);
+        return walk::walk(s, shape_of(s), actions, entries);
     };
     Ran::Refused { number, returned }
 }

@@ -9,8 +9,11 @@ ghost use Rattle.sheet_bytes.specs.Layout.{actionsOf};
 ghost use Rattle.sheet_bytes.specs.Decode.{decode};
 ghost use Rattle.sheet_bytes.specs.Three.{Read};
 ghost use Rattle.sheet.specs.Check.{sheetCheck};
-use answers::Ending;
+ghost use Rattle.sheet.specs.Walk.{At, Acts};
+use answers::FirstBarred;
 use answers::Ran;
+use answers::noted;
+use sheet_bytes::Config;
 use sheet_bytes::Move;
 use sheet_bytes::Shape;
 use sheet_bytes::fields::label_at;
@@ -19,33 +22,64 @@ use sheet_bytes::fields::start_of;
 use sheet_bytes::space::land;
 use sheet_bytes::space::region_of;
 
-// Writes the label of the start and the label after each action, up to the first barred one.
-pub(crate) fn walk(s: &[u8], shape: Shape, actions: &[u8], labels: &mut [u16]) -> Ran
+// What one action does: where the walk is then and in which region, what is written, and whether the action was barred.
+pub(crate) struct Acted {
+    pub config: Config,
+    pub region: usize,
+    pub entry: u16,
+    pub barred: bool,
+}
+
+// Takes one action from a configuration of region i. A barred one leaves everything as it is and writes 65,535.
+fn act(s: &[u8], shape: Shape, x: Config, i: usize, action: usize) -> Acted
+    requires { ⌜ Read (now s) shape ⌝ }
+    requires { ⌜ sheetCheck (now s) ≡ Fine ⌝ }
+    requires { ⌜ At (now s) x i ⌝ }
+    requires { ⌜ action < actionsOf (now s) ⌝ }
+    ensures { λ r. ⌜ Acts (now (s .entry)) x action r ⌝ }
+{
+    let m = move_at(s, shape, i, action);
+    let kind = m.kind;
+    let Move::Open = kind else {
+        return Acted {
+            config: x,
+            region: i,
+            entry: 65535,
+            barred: true,
+        };
+    };
+    let config = land(x, m);
+    let region = region_of(s, shape, config);
+    Acted {
+        config,
+        region,
+        entry: label_at(s, shape, region),
+        barred: false,
+    }
+}
+
+// Writes the label of the start and an entry for each action.
+pub(crate) fn walk(s: &[u8], shape: Shape, actions: &[u8], entries: &mut [u16]) -> Ran
     requires { ⌜ Read (now s) shape ⌝ }
     requires { ⌜ sheetCheck (now s) ≡ Fine ⌝ }
     requires { ⌜ ((n : ℕ) → n < length (now actions) → getD (now actions) n 0 < actionsOf (now s)) ⌝ }
-    requires { ⌜ length (now actions) + 1 ≤ length (now labels) ⌝ }
+    requires { ⌜ length (now actions) + 1 ≤ length (now entries) ⌝ }
     ensures { λ r. ⌜ r ≡ ranBy Fine (sheetReading (decode (now (s .entry))) (now (actions .entry))) ⌝ }
-    ensures { λ r. ⌜ now (labels .exit) ≡ leftBy Fine (sheetReading (decode (now (s .entry))) (now (actions .entry))) (now (labels .entry)) ⌝ }
+    ensures { λ r. ⌜ now (entries .exit) ≡ leftBy Fine (sheetReading (decode (now (s .entry))) (now (actions .entry))) (now (entries .entry)) ⌝ }
 {
     let mut x = start_of(s, shape);
     let mut i = region_of(s, shape, x);
-    labels[0] = label_at(s, shape, i);
+    let mut first = FirstBarred::Nothing;
+    entries[0] = label_at(s, shape, i);
     for n in 0..actions.len() {
-        let m = move_at(s, shape, i, actions[n] as usize);
-        let kind = m.kind;
-        let Move::Open = kind else {
-            return Ran::Done {
-                labels: n + 1,
-                ending: Ending::Barred { index: n },
-            };
-        };
-        x = land(x, m);
-        i = region_of(s, shape, x);
-        labels[n + 1] = label_at(s, shape, i);
+        let acted = act(s, shape, x, i, actions[n] as usize);
+        x = acted.config;
+        i = acted.region;
+        entries[n + 1] = acted.entry;
+        first = noted(first, n, acted.barred);
     }
     Ran::Done {
-        labels: actions.len() + 1,
-        ending: Ending::Whole,
+        entries: actions.len() + 1,
+        barred: first,
     }
 }

@@ -1,4 +1,4 @@
--- What check 4 leaves: the rules of every open move are within their limits, and the bounds of a range need no check for that.
+-- What check 4 leaves: no label is 65,535, the rules of every open move are within their limits, and the bounds of a range need no check for that.
 use mathlib.Core.Path.{_≡_, subst}
 use mathlib.Core.Bool.{Bool, true, false, _&&_, not}
 use mathlib.Core.List.{List}
@@ -18,7 +18,7 @@ use Rattle.answers.specs.declared.Checked.the-variants.{Fine}
 use Rattle.answers.specs.Stages.{andThen, each, then-fine, demand, demand-fine, each-fine}
 use Rattle.model.specs.declared.Rule.the-variants.{Set, Carry}
 use Rattle.model.specs.Sheet.{Barred, Open, RuleFits, set-fits, carry-fits, RangeFits, MoveFits, barred-fits, open-fits}
-use Rattle.sheet_bytes.specs.Layout.{countersOf, actionsOf, regionsOf, highPlace, movePlace, movePart, rulePlace, kindOf, sourceOf, factorOf, offsetOf}
+use Rattle.sheet_bytes.specs.Layout.{countersOf, actionsOf, regionsOf, regionPlace, labelAt, highPlace, movePlace, movePart, rulePlace, kindOf, sourceOf, factorOf, offsetOf}
 use Rattle.sheet_bytes.specs.Decode.{listed, rangeAt, ruleOf, ruleAt, moveOf, moveAt}
 use Rattle.sheet_bytes.specs.Bounds.{each-listed, range-within}
 use Rattle.sheet_form.specs.Form.{near, checkRule, checkZeroRule, checkMove, checkFields}
@@ -82,11 +82,18 @@ move-fits V# p at b e = go (eqb (kindOf p) 0) (then-fine (demand (leb (kindOf p)
         (λ v h. rule-fits V# (drop (rulePlace v) p) (at + rulePlace v) (each-fine (λ v. checkRule V# (drop (rulePlace v) p) (at + rulePlace v)) V# f v h)))
 
 module _ (s : List ℕ) (b : Bytes s) (e : each (checkFields s) (regionsOf s) ≡ Fine) where
-  -- every move of a sheet that passed check 4 is within its limits,
+  -- no label of a sheet that passed check 4 is 65,535,
+  pub label-fits : (i : ℕ) → i < regionsOf s → labelAt s i < 65535
+  unfolding checkFields
+  label-fits i h =
+      let f = then-fine (demand (ltb (labelAt s i) 65535) 4 (regionPlace s i)) _ (each-fine (checkFields s) (regionsOf s) e i h) .0 in
+      ltb-true (labelAt s i) 65535 (demand-fine (ltb (labelAt s i) 65535) 4 (regionPlace s i) f)
+
+  -- every move of it is within its limits,
   pub moves-fit : (i a : ℕ) → i < regionsOf s → a < actionsOf s → MoveFits (countersOf s) (moveAt s i a)
   unfolding moveAt checkFields
   moves-fit i a h k =
-      let f = each-fine (checkFields s) (regionsOf s) e i h in
+      let f = then-fine (demand (ltb (labelAt s i) 65535) 4 (regionPlace s i)) _ (each-fine (checkFields s) (regionsOf s) e i h) .1 in
       let g = then-fine (each (λ v. demand (leZ (rangeAt s i v .low) (rangeAt s i v .high)) 4 (highPlace s i v)) (countersOf s)) _ f .1 in
       move-fits (countersOf s) (movePart s i a) (movePlace s i a) (bytes-drop s (movePlace s i a) b)
       (each-fine (λ a. checkMove (countersOf s) (movePart s i a) (movePlace s i a)) (actionsOf s) g a k)
@@ -95,7 +102,7 @@ module _ (s : List ℕ) (b : Bytes s) (e : each (checkFields s) (regionsOf s) �
   pub range-fits : (i v : ℕ) → i < regionsOf s → v < countersOf s → RangeFits (rangeAt s i v)
   unfolding checkFields
   range-fits i v h k =
-      let f = each-fine (checkFields s) (regionsOf s) e i h in
+      let f = then-fine (demand (ltb (labelAt s i) 65535) 4 (regionPlace s i)) _ (each-fine (checkFields s) (regionsOf s) e i h) .1 in
       let g = then-fine (each (λ v. demand (leZ (rangeAt s i v .low) (rangeAt s i v .high)) 4 (highPlace s i v)) (countersOf s)) _ f .0 in
       let d = each-fine (λ v. demand (leZ (rangeAt s i v .low) (rangeAt s i v .high)) 4 (highPlace s i v)) (countersOf s) g v k in
       let o = demand-fine (leZ (rangeAt s i v .low) (rangeAt s i v .high)) 4 (highPlace s i v) d in

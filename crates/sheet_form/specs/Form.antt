@@ -10,7 +10,7 @@ use lib.Signed.{leZ}
 use Rattle.integers.specs.Range.{contains}
 use Rattle.answers.specs.declared.Checked.{Checked}
 use Rattle.answers.specs.Stages.{andThen, demand, each}
-use Rattle.sheet_bytes.specs.Layout.{sheetMark, countersOf, actionsOf, regionsOf, regionPlace, highPlace, movePlace, movePart, rulePlace, kindOf, sourceOf, factorOf, offsetOf}
+use Rattle.sheet_bytes.specs.Layout.{sheetMark, countersOf, actionsOf, regionsOf, regionPlace, labelAt, highPlace, movePlace, movePart, rulePlace, kindOf, sourceOf, factorOf, offsetOf}
 use Rattle.sheet_bytes.specs.Decode.{rangeAt}
 
 -- the bytes of two lists are the same
@@ -65,8 +65,9 @@ checkMove V# p at =
       | false ↦ each (λ v. checkRule V# (drop (rulePlace v) p) (at + rulePlace v)) V#
     ])
 
--- 4, region i: low above high, then the moves
+-- 4, region i: the label 65,535, low above high, then the moves
 unfoldable pub checkFields : List ℕ → ℕ → Checked
 checkFields s i =
-    andThen (each (λ v. demand (leZ (rangeAt s i v .low) (rangeAt s i v .high)) 4 (highPlace s i v)) (countersOf s))
-    (each (λ a. checkMove (countersOf s) (movePart s i a) (movePlace s i a)) (actionsOf s))
+    andThen (demand (ltb (labelAt s i) 65535) 4 (regionPlace s i))
+    (andThen (each (λ v. demand (leZ (rangeAt s i v .low) (rangeAt s i v .high)) 4 (highPlace s i v)) (countersOf s))
+    (each (λ a. checkMove (countersOf s) (movePart s i a) (movePlace s i a)) (actionsOf s)))

@@ -14,6 +14,7 @@ use integers::bytes::signed8;
 use integers::bytes::signed32;
 use integers::ranges::has;
 use sheet_bytes::Shape;
+use sheet_bytes::fields::label_at;
 use sheet_bytes::fields::move_place;
 use sheet_bytes::fields::range_at;
 use sheet_bytes::fields::region_place;
@@ -182,12 +183,16 @@ fn check_moves(s: &[u8], shape: Shape, i: usize) -> Checked
     Checked::Fine
 }
 
-// The fields of region i.
+// The fields of region i: its label is not what a run writes for a barred action.
 fn check_region(s: &[u8], shape: Shape, i: usize) -> Checked
     requires { ⌜ Read (now s) shape ⌝ }
     requires { ⌜ i < shape .regions ⌝ }
     ensures { λ r. ⌜ r ≡ checkFields (now (s .entry)) i ⌝ }
 {
+    let label = demanded(label_at(s, shape, i) < 65535, 4, region_place(s, shape, i));
+    let Checked::Fine = label else {
+        return label;
+    };
     let bounds = check_bounds(s, shape, i);
     let Checked::Fine = bounds else {
         return bounds;

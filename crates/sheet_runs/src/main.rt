@@ -1,15 +1,15 @@
-// Runs sheets at their extremes: the sheet of 43 bytes, three counters whose rules all read another counter, 0 to 4,097 actions, each
-// refusal of a run. Its output is stored.
+// Runs sheets at their extremes: the sheet of 43 bytes, three counters whose rules all read another counter, 0 to 4,097 actions, barred at
+// once, at the end and in between, each refusal of a run. Its output is stored.
 use text::put;
-use text::put_labels;
+use text::put_entries;
 use text::put_ran;
 
 // A run of the first n actions with a buffer of room entries.
-fn run_on(s: &[u8], len: usize, w: &[u8], n: usize, labels: &mut [u16], room: usize) {
+fn run_on(s: &[u8], len: usize, w: &[u8], n: usize, entries: &mut [u16], room: usize) {
     if len <= s.len() {
         if n <= w.len() {
-            if room <= labels.len() {
-                put_ran(sheet::run(&s[0..len], &w[0..n], &mut labels[0..room]));
+            if room <= entries.len() {
+                put_ran(sheet::run(&s[0..len], &w[0..n], &mut entries[0..room]));
             }
         }
     }
@@ -17,12 +17,12 @@ fn run_on(s: &[u8], len: usize, w: &[u8], n: usize, labels: &mut [u16], room: us
 
 // The same, and the buffer's ends afterwards.
 fn show_run(name: &[u8], s: &[u8], len: usize, w: &[u8], n: usize, room: usize) {
-    let mut labels = [7777u16; 4100];
+    let mut entries = [7777u16; 4100];
     put(name);
     put(b": ");
-    run_on(s, len, w, n, &mut labels, room);
-    put_labels(&labels, 0);
-    put_labels(&labels, 4095);
+    run_on(s, len, w, n, &mut entries, room);
+    put_entries(&entries, 0);
+    put_entries(&entries, 4095);
 }
 
 // The sheet of 43 bytes.
@@ -31,7 +31,8 @@ fn show_short(w: &[u8; 4097]) {
         b"MSH\x01\0\x01\x01\x02\0\x02\0\x0A\0\0\0\0\x07\0\x01\0\x01\0\x02\x01\0\0\0\x14\0\0\x08\0\x0F\0\0\0\0\0\0\0\0\0\0";
     show_run(b"no action", s, 43, w, 0, 4100);
     show_run(b"1 action", s, 43, w, 1, 4100);
-    show_run(b"3 actions, barred", s, 43, w, 3, 4100);
+    show_run(b"3 actions, the last one barred", s, 43, w, 3, 4100);
+    show_run(b"4096 actions, all but two barred", s, 43, w, 4096, 4097);
     show_run(b"3 actions, room for 3", s, 43, w, 3, 3);
     show_run(b"no action, no room", s, 43, w, 0, 0);
     show_run(b"sheet one byte short", s, 42, w, 4097, 0);
@@ -59,6 +60,15 @@ fn show_turning(w: &mut [u8; 4097]) {
     show_refused(s, w);
 }
 
+// One counter, 0 or 1, and two actions, each of which is barred where it leads, and not in the other value.
+fn show_skipping(w: &mut [u8; 4097]) {
+    let s =
+        b"MSH\x01\0\x01\x02\x02\0\0\0\x0A\0\0\0\0\0\0\x01\0\0\0\0\x01\0\0\0\0\0\0\0\0\0\0\0\0\x14\0\0\x01\0\x01\0\0\0\0\0\0\0\0\0\0\x01\0\0\0\0\0\0\0\0";
+    w[0] = 0;
+    w[2] = 1;
+    show_run(b"actions 0, 0, 1, the second one barred", s, 61, w, 3, 4100);
+}
+
 // Actions that the sheet lacks, the last of the longest sequence and the first.
 fn show_refused(s: &[u8], w: &mut [u8; 4097]) {
     w[4095] = 1;
@@ -72,4 +82,5 @@ fn main() {
     show_short(&w);
     show_starts(&w);
     show_turning(&mut w);
+    show_skipping(&mut w);
 }

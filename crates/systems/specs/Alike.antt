@@ -8,99 +8,81 @@ use mathlib.Core.Logic.{_↔_, Equivalence}
 use mathlib.Core.List.{List, [], _∷_}
 use mathlib.Core.Option.{Option, some, none, Option·map}
 use lib.ListN.{length}
-use Rattle.systems.specs.System.{System, Reading, alone, stopped, before, continued, reading, Alike, Below, below-nil, below-cons}
+use Rattle.systems.specs.System.{System, Reading, after, entry, written, earliest, firstBarred, reading, Alike, Below, below-nil, below-cons}
 
--- what the first action of a sequence does to a reading
-pub reading-open : {X : Type 0} (s : System X) (a : ℕ) (w : List ℕ) (x y : X) → s .step a x ≡ some y → reading s (a ∷ w) x ≡ before (s .label x) (reading s w y)
-unfolding reading continued
-reading-open s a w x y e = ap (λ o. continued (s .label x) o (reading s w)) e
-
-pub reading-barred : {X : Type 0} (s : System X) (a : ℕ) (w : List ℕ) (x : X) → s .step a x ≡ none → reading s (a ∷ w) x ≡ stopped (s .label x)
-unfolding reading continued
-reading-barred s a w x e = ap (λ o. continued (s .label x) o (reading s w)) e
-
--- what the number of labels and the barred index of a reading of n actions can be
-pub data Sized (n : ℕ) : ℕ → Option ℕ → Type 0 where
-  whole : Sized n (suc n) none
-  cut : {k : ℕ} → k < n → Sized n (suc k) (some k)
-
-sized-before : {n k : ℕ} {b : Option ℕ} → Sized n k b → Sized (suc n) (suc k) (Option·map suc b)
-sized-before whole = whole
-sized-before (cut {k = k} h) = cut {k = suc k} (omega arith)
-
-sized-continued : {X : Type 0} (n l : ℕ) (o : Option X) (rest : X → Reading) → ((y : X) → Sized n (length (rest y .labels)) (rest y .barred))
-    → Sized (suc n) (length (continued l o rest .labels)) (continued l o rest .barred)
-unfolding continued stopped before
-sized-continued n l none rest h = cut {k = 0} (omega arith)
-sized-continued n l (some y) rest h = sized-before (h y)
-
--- A reading has one label more than there are actions, or, where action k is barred, one more than the actions before it.
-pub reading-sized : {X : Type 0} (s : System X) (w : List ℕ) (x : X) → Sized (length w) (length (reading s w x .labels)) (reading s w x .barred)
-unfolding reading alone
-reading-sized s [] x = whole
-reading-sized s (a ∷ w) x = sized-continued (length w) (s .label x) (s .step a x) (reading s w) (λ y. reading-sized s w y)
-
--- the two cases, by the barred index
-pub sized-whole : {n k : ℕ} → Sized n k none → k ≡ suc n
-sized-whole whole = refl
-
-pub sized-cut : {n k b : ℕ} → Sized n k (some b) → (b < n) × (k ≡ suc b)
-sized-cut (cut h) = (h, refl)
-
--- the labels of a reading are never empty
-pub reading-labelled : {X : Type 0} (s : System X) (w : List ℕ) (x : X) → 0 < length (reading s w x .labels)
-reading-labelled s w x = go (reading-sized s w x)
+-- A reading of n actions has n + 1 entries, whatever is barred.
+pub reading-length : {X : Type 0} (s : System X) (w : List ℕ) (x : X) → length (reading s w x .entries) ≡ suc (length w)
+unfolding reading written
+reading-length {X} s w x = ap suc (go w x)
   where
-    go : {n k : ℕ} {b : Option ℕ} → Sized n k b → 0 < k
-    go whole = omega arith
-    go (cut h) = omega arith
+    go : (w : List ℕ) (x : X) → length (written s w x) ≡ length w
+    go [] x = refl
+    go (a ∷ w) x = ap suc (go w (after x (s .step a x)))
 
--- a reading is its labels and its barred index
-pub reading-eq : {r q : Reading} → r .labels ≡ q .labels → r .barred ≡ q .barred → r ≡ q
-reading-eq p q = λ i. record { labels = p i; barred = q i }
+-- a reading is its entries and its barred index
+pub reading-eq : {r q : Reading} → r .entries ≡ q .entries → r .barred ≡ q .barred → r ≡ q
+reading-eq p q = λ i. record { entries = p i; barred = q i }
 
-map-suc-inj : (o u : Option ℕ) → Option·map suc o ≡ Option·map suc u → o ≡ u
+-- one label and one open action before a reading: the actions' indices rise by one
+unfoldable pub before : ℕ → Reading → Reading
+before l r = record { entries = l ∷ r .entries; barred = Option·map suc (r .barred) }
+
+-- one label and one barred action before what further actions write
+unfoldable pub skipping : ℕ → List ℕ → Reading
+skipping l rest = record { entries = l ∷ 65535 ∷ rest; barred = some 0 }
+
+-- What the first action of a sequence does to a reading: after an open one come the label where it leads and what is read from there,
+pub reading-open : {X : Type 0} (s : System X) (a : ℕ) (w : List ℕ) (x y : X) → s .step a x ≡ some y → reading s (a ∷ w) x ≡ before (s .label x) (reading s w y)
+unfolding reading written firstBarred entry after earliest before
+reading-open s a w x y e = rw e refl
+
+-- after a barred one 65,535, and what is read from where it stood.
+pub reading-barred : {X : Type 0} (s : System X) (a : ℕ) (w : List ℕ) (x : X) → s .step a x ≡ none → reading s (a ∷ w) x ≡ skipping (s .label x) (written s w x)
+unfolding reading written firstBarred entry after earliest skipping
+reading-barred s a w x e = rw e refl
+
+-- equal readings begin with one label, and what the actions write is equal
+pub reading-parts : {X Y : Type 0} (s : System X) (t : System Y) (w : List ℕ) (x : X) (y : Y) → reading s w x ≡ reading t w y
+    → (s .label x ≡ t .label y) × (written s w x ≡ written t w y)
+unfolding reading
+reading-parts s t w x y e =
+    let p : s .label x ∷ written s w x ≡ t .label y ∷ written t w y = ap (λ (z : Reading). z .entries) e in
+    (cc, cc)
+
+-- one more than an index: the same only of the same, and never 0
+pub map-suc-inj : (o u : Option ℕ) → Option·map suc o ≡ Option·map suc u → o ≡ u
 map-suc-inj none none e = refl
 map-suc-inj none (some n) e = let z : _≡_ {A = ℕ} 0 1 = cc in absurd (omega arith)
 map-suc-inj (some m) none e = let z : _≡_ {A = ℕ} 0 1 = cc in absurd (omega arith)
 map-suc-inj (some m) (some n) e = cc
 
--- one label and one action before two readings: equal only where both parts are
-pub before-inj : (l m : ℕ) (r q : Reading) → before l r ≡ before m q → (l ≡ m) × (r ≡ q)
+pub map-suc-zero : (o : Option ℕ) → Option·map suc o ≡ some 0 → ⊥
+map-suc-zero none e = let z : _≡_ {A = ℕ} 0 1 = cc in omega arith
+map-suc-zero (some k) e = let z : suc k ≡ 0 = cc in omega arith
+
+-- one label and one open action before two readings: equal only where both parts are
+before-inj : (l m : ℕ) (r q : Reading) → before l r ≡ before m q → r ≡ q
 unfolding before
 before-inj l m r q e =
-    let p : l ∷ r .labels ≡ m ∷ q .labels = ap (λ (z : Reading). z .labels) e in
+    let p : l ∷ r .entries ≡ m ∷ q .entries = ap (λ (z : Reading). z .entries) e in
     let b : Option·map suc (r .barred) ≡ Option·map suc (q .barred) = ap (λ (z : Reading). z .barred) e in
-    (cc, reading-eq (cc) (map-suc-inj (r .barred) (q .barred) b))
+    reading-eq (cc) (map-suc-inj (r .barred) (q .barred) b)
 
--- a reading that goes on is none that stops at its first action
-pub before-stopped : (l m : ℕ) (r : Reading) → before l r ≡ stopped m → ⊥
-unfolding before stopped
-before-stopped l m r e = go (r .barred) (ap (λ (z : Reading). z .barred) e)
-  where
-    go : (o : Option ℕ) → Option·map suc o ≡ some 0 → ⊥
-    go none e′ = let z : _≡_ {A = ℕ} 0 1 = cc in omega arith
-    go (some k) e′ = let z : suc k ≡ 0 = cc in omega arith
+-- a reading whose first action is open is none whose first action is barred
+before-skipping : (l m : ℕ) (r : Reading) (rest : List ℕ) → before l r ≡ skipping m rest → ⊥
+unfolding before skipping
+before-skipping l m r rest e = map-suc-zero (r .barred) (ap (λ (z : Reading). z .barred) e)
 
--- the reading of no action is none that stops at its first action
-pub alone-stopped : (l m : ℕ) → alone l ≡ stopped m → ⊥
-unfolding alone stopped
-alone-stopped l m e = let b : _≡_ {A = Option ℕ} none (some 0) = ap (λ (z : Reading). z .barred) e in let z : _≡_ {A = ℕ} 0 1 = cc in omega arith
+module _ {X Y : Type 0} (s : System X) (t : System Y) (a : ℕ) (w : List ℕ) (x : X) (y : Y) where
+  -- An action that is open in one and barred in the other tells them apart, whatever follows;
+  pub barred-differs : (x′ : X) → s .step a x ≡ some x′ → t .step a y ≡ none → reading s (a ∷ w) x ≡ reading t (a ∷ w) y → ⊥
+  barred-differs x′ p q e =
+      before-skipping (s .label x) (t .label y) (reading s w x′) (written t w y) (sym (reading-open s a w x x′ p) ∙ e ∙ reading-barred t a w y q)
 
--- the reading of no action is none that goes on to a reading, which has a label
-pub alone-before : (l m : ℕ) (r : Reading) → 0 < length (r .labels) → alone l ≡ before m r → ⊥
-unfolding alone before
-alone-before l m r h e =
-    let p : length (l ∷ []) ≡ length (m ∷ r .labels) = ap (λ (z : Reading). length (z .labels)) e in
-    omega arith
-
-pub alone-inj : (l m : ℕ) → alone l ≡ alone m → l ≡ m
-unfolding alone
-alone-inj l m e = let p : l ∷ [] ≡ m ∷ [] = ap (λ (z : Reading). z .labels) e in cc
-
-pub stopped-inj : (l m : ℕ) → stopped l ≡ stopped m → l ≡ m
-unfolding stopped
-stopped-inj l m e = let p : l ∷ [] ≡ m ∷ [] = ap (λ (z : Reading). z .labels) e in cc
+  -- where it is open in both, equal readings go on to equal ones.
+  pub open-next : (x′ : X) (y′ : Y) → s .step a x ≡ some x′ → t .step a y ≡ some y′ → reading s (a ∷ w) x ≡ reading t (a ∷ w) y → reading s w x′ ≡ reading t w y′
+  open-next x′ y′ p q e =
+      before-inj (s .label x) (t .label y) (reading s w x′) (reading t w y′) (sym (reading-open s a w x x′ p) ∙ e ∙ reading-open t a w y y′ q)
 
 -- two steps are both barred, or both open to related configurations
 pub data Both {X Y : Type 0} (R : X → Y → Type 0) : Option X → Option Y → Type 0 where
@@ -130,22 +112,32 @@ both-left u b e = both-right u (both-sym b) e
 abbrev pub AlikeOn : {X Y : Type 0} → (List ℕ → Type 0) → System X → System Y → X → Y → Type 0
 AlikeOn P s t x y = (w : List ℕ) → P w → reading s w x ≡ reading t w y
 
--- related steps, under equal labels, go on to equal readings
-pub continued-both : {X Y : Type 0} {R : X → Y → Type 0} {l m : ℕ} (f : X → Reading) (g : Y → Reading) {o : Option X} {u : Option Y}
-    → ((x : X) (y : Y) → R x y → f x ≡ g y) → l ≡ m → Both R o u → continued l o f ≡ continued m u g
-unfolding continued
-continued-both f g h e both-barred = ap stopped e
-continued-both {l} {m} f g h e (both-open {x = x} {y = y} r) = let q = h x y r in cc
+-- Related steps go on to equal readings, where what a barred action leaves reads the same.
+pub next-both : {X Y : Type 0} {R : X → Y → Type 0} (s : System X) (t : System Y) (a : ℕ) (w : List ℕ) (x : X) (y : Y) → reading s w x ≡ reading t w y
+    → ((x′ : X) (y′ : Y) → R x′ y′ → reading s w x′ ≡ reading t w y′) → Both R (s .step a x) (t .step a y) → reading s (a ∷ w) x ≡ reading t (a ∷ w) y
+next-both {X} {Y} {R} s t a w x y e f b = go refl refl b
+  where
+    go : {o : Option X} {u : Option Y} → s .step a x ≡ o → t .step a y ≡ u → Both R o u → reading s (a ∷ w) x ≡ reading t (a ∷ w) y
+    go p q both-barred =
+        let (l, r) = reading-parts s t w x y e in
+        let z : skipping (s .label x) (written s w x) ≡ skipping (t .label y) (written t w y) = cc in
+        reading-barred s a w x p ∙ z ∙ sym (reading-barred t a w y q)
+    go p q (both-open {x = x′} {y = y′} r) =
+        let l = reading-parts s t w x y e .0 in
+        let h = f x′ y′ r in
+        let z : before (s .label x) (reading s w x′) ≡ before (t .label y) (reading t w y′) = cc in
+        reading-open s a w x x′ p ∙ z ∙ sym (reading-open t a w y y′ q)
 
--- and readings that are equal on all sequences of a kind come from related steps
-pub both-continued : {X Y : Type 0} (P : List ℕ → Type 0) (s : System X) (t : System Y) (l m : ℕ) → P []
-    → (o : Option X) (u : Option Y) → ((w : List ℕ) → P w → continued l o (reading s w) ≡ continued m u (reading t w))
-    → Both (AlikeOn P s t) o u
-unfolding continued
-both-continued P s t l m p none none h = both-barred
-both-continued P s t l m p none (some y) h = absurd (before-stopped m l (reading t [] y) (sym (h [] p)))
-both-continued P s t l m p (some x) none h = absurd (before-stopped l m (reading s [] x) (h [] p))
-both-continued P s t l m p (some x) (some y) h = both-open (λ w q. before-inj l m (reading s w x) (reading t w y) (h w q) .1)
+-- and readings that are equal, behind an action, on all sequences of a kind come from related steps
+pub both-next : {X Y : Type 0} (P : List ℕ → Type 0) (s : System X) (t : System Y) (a : ℕ) (x : X) (y : Y) → P []
+    → ((w : List ℕ) → P w → reading s (a ∷ w) x ≡ reading t (a ∷ w) y) → Both (AlikeOn P s t) (s .step a x) (t .step a y)
+both-next {X} {Y} P s t a x y p h = go (s .step a x) (t .step a y) refl refl
+  where
+    go : (o : Option X) (u : Option Y) → s .step a x ≡ o → t .step a y ≡ u → Both (AlikeOn P s t) (s .step a x) (t .step a y)
+    go none none e f = rw (e, f) both-barred
+    go none (some y′) e f = absurd (barred-differs t s a [] y x y′ f e (sym (h [] p)))
+    go (some x′) none e f = absurd (barred-differs s t a [] x y x′ e f (h [] p))
+    go (some x′) (some y′) e f = rw (e, f) (both-open (λ w q. open-next s t a w x y x′ y′ e f (h w q)))
 
 -- at most k actions
 abbrev pub AlikeTo : {X Y : Type 0} → ℕ → System X → System Y → X → Y → Type 0
@@ -153,18 +145,19 @@ AlikeTo k s t x y = (w : List ℕ) → length w ≤ k → reading s w x ≡ read
 
 module _ {X Y : Type 0} (s : System X) (t : System Y) where
   labels-eq : (x : X) (y : Y) → reading s [] x ≡ reading t [] y → s .label x ≡ t .label y
-  unfolding reading
-  labels-eq x y e = alone-inj (s .label x) (t .label y) e
+  labels-eq x y e = reading-parts s t [] x y e .0
+
+  -- no action: the labels alone
+  empty-eq : (x : X) (y : Y) → s .label x ≡ t .label y → reading s [] x ≡ reading t [] y
+  unfolding reading written firstBarred
+  empty-eq x y e = reading-eq (ap (λ (l : ℕ). l ∷ []) e) refl
 
   alike-out : (x : X) (y : Y) → Alike s t x y → (a : ℕ) → Both (Alike s t) (s .step a x) (t .step a y)
-  unfolding reading
-  alike-out x y h a =
-      both-map (λ x′ y′ r w. r w tt) (both-continued (λ w. Unit {0}) s t (s .label x) (t .label y) tt (s .step a x) (t .step a y) (λ w u. h (a ∷ w)))
+  alike-out x y h a = both-map (λ x′ y′ r w. r w tt) (both-next (λ w. Unit {0}) s t a x y tt (λ w u. h (a ∷ w)))
 
   alike-in : (x : X) (y : Y) → s .label x ≡ t .label y → ((a : ℕ) → Both (Alike s t) (s .step a x) (t .step a y)) → Alike s t x y
-  unfolding reading
-  alike-in x y e h [] = ap alone e
-  alike-in x y e h (a ∷ w) = continued-both (reading s w) (reading t w) (λ x′ y′ r. r w) e (h a)
+  alike-in x y e h [] = empty-eq x y e
+  alike-in x y e h (a ∷ w) = next-both s t a w x y (alike-in x y e h w) (λ x′ y′ r. r w) (h a)
 
   -- The one-step law: equivalent configurations have one label, and each action is barred in both or leads to equivalent ones.
   pub alike-step : (x : X) (y : Y) → Alike s t x y ↔ ((s .label x ≡ t .label y) × ((a : ℕ) → Both (Alike s t) (s .step a x) (t .step a y)))
@@ -178,28 +171,23 @@ module _ {X Y : Type 0} (s : System X) (t : System Y) where
 
   -- to depth 0: the labels alone
   pub alike-to-zero : (x : X) (y : Y) → AlikeTo zero s t x y ↔ (s .label x ≡ t .label y)
-  unfolding reading
   alike-to-zero x y = (λ h. labels-eq x y (h [] (omega arith)), go)
     where
       go : s .label x ≡ t .label y → (w : List ℕ) → length w ≤ zero → reading s w x ≡ reading t w y
-      go e [] h = ap alone e
+      go e [] h = empty-eq x y e
       go e (a ∷ w) h = absurd (not-suc-le-zero h)
 
   -- to depth k + 1: the labels, and each action to depth k
   pub alike-to-suc : (k : ℕ) (x : X) (y : Y)
       → AlikeTo (suc k) s t x y ↔ ((s .label x ≡ t .label y) × ((a : ℕ) → Both (AlikeTo k s t) (s .step a x) (t .step a y)))
-  unfolding reading
   alike-to-suc k x y = (
-    λ h. (
-      labels-eq x y (h [] (omega arith)),
-      λ a. both-continued (λ w. length w ≤ k) s t (s .label x) (t .label y) (omega arith) (s .step a x) (t .step a y) (λ w l. h (a ∷ w) (omega arith)),
-    ),
+    λ h. (labels-eq x y (h [] (omega arith)), λ a. both-next (λ w. length w ≤ k) s t a x y (omega arith) (λ w l. h (a ∷ w) (omega arith))),
     λ p. go (p .0) (p .1),
   )
     where
       go : s .label x ≡ t .label y → ((a : ℕ) → Both (AlikeTo k s t) (s .step a x) (t .step a y)) → (w : List ℕ) → length w ≤ suc k → reading s w x ≡ reading t w y
-      go e h [] l = ap alone e
-      go e h (a ∷ w) l = continued-both (reading s w) (reading t w) (λ x′ y′ r. r w (le-of-suc-le-suc l)) e (h a)
+      go e h [] l = empty-eq x y e
+      go e h (a ∷ w) l = next-both s t a w x y (go e h w (omega arith)) (λ x′ y′ r. r w (le-of-suc-le-suc l)) (h a)
 
   -- equivalent configurations are those that are so to every depth
   pub alike-depths : (x : X) (y : Y) → Alike s t x y ↔ ((k : ℕ) → AlikeTo k s t x y)
@@ -220,9 +208,8 @@ module _ {X Y : Type 0} (s : System X) (t : System Y) where
 
   -- and contains each
   pub bisimilar-alike : {R : X → Y → Type 0} → Bisimulation R → (x : X) (y : Y) → R x y → Alike s t x y
-  unfolding reading
-  bisimilar-alike B x y r [] = ap alone (B .label x y r)
-  bisimilar-alike B x y r (a ∷ w) = continued-both (reading s w) (reading t w) (λ x′ y′ q. bisimilar-alike B x′ y′ q w) (B .label x y r) (B .next x y r a)
+  bisimilar-alike B x y r [] = empty-eq x y (B .label x y r)
+  bisimilar-alike B x y r (a ∷ w) = next-both s t a w x y (bisimilar-alike B x y r w) (λ x′ y′ q. bisimilar-alike B x′ y′ q w) (B .next x y r a)
 
 -- equivalence within one system and between systems
 pub alike-refl : {X : Type 0} (s : System X) (x : X) → Alike s s x x
@@ -245,15 +232,14 @@ alike-to-equivalence k s = record { refl = λ x w l. refl; symm = λ x y h w l. 
 pub alike-below : {X Y : Type 0} (s : System X) (t : System Y) (n : ℕ)
     → ((a : ℕ) → n ≤ a → (x : X) → s .step a x ≡ none) → ((a : ℕ) → n ≤ a → (y : Y) → t .step a y ≡ none)
     → (x : X) (y : Y) → AlikeOn (Below n) s t x y ↔ Alike s t x y
-unfolding reading
 alike-below {X} {Y} s t n hs ht x y = (λ h. bisimilar-alike s t (record { label = label; next = next }) x y h, λ h w b. h w)
   where
     label : (x : X) (y : Y) → AlikeOn (Below n) s t x y → s .label x ≡ t .label y
-    label x y h = alone-inj (s .label x) (t .label y) (h [] below-nil)
+    label x y h = reading-parts s t [] x y (h [] below-nil) .0
 
     next : (x : X) (y : Y) → AlikeOn (Below n) s t x y → (a : ℕ) → Both (AlikeOn (Below n) s t) (s .step a x) (t .step a y)
     next x y h a = go (decLt a n)
       where
         go : Dec (a < n) → Both (AlikeOn (Below n) s t) (s .step a x) (t .step a y)
-        go (yes l) = both-continued (Below n) s t (s .label x) (t .label y) below-nil (s .step a x) (t .step a y) (λ w b. h (a ∷ w) (below-cons l b))
+        go (yes l) = both-next (Below n) s t a x y below-nil (λ w b. h (a ∷ w) (below-cons l b))
         go (no l) = rw (hs a (omega arith) x, ht a (omega arith) y) both-barred

@@ -4,6 +4,8 @@ pub mod System
 pub mod Exploration
 pub mod Laws
 pub mod Alike
+pub mod Entries
+pub mod Former
 pub mod Counting
 pub mod Moore
 pub mod Pigeonhole

@@ -10,32 +10,40 @@ pub record System (X : Type 0) : Type 0 where
   pub label : X → ℕ
   pub step : ℕ → X → Option X
 
--- A reading (document 01): the labels in order, and the index of the barred action that ended it, or none.
+-- where an action leads: a barred one leaves the configuration as it is
+unfoldable pub after : {X : Type 0} → X → Option X → X
+after x none = x
+after x (some y) = y
+
+-- what an action writes: the label where it leads, or 65,535 in the label's place where it is barred
+unfoldable pub entry : {X : Type 0} → System X → Option X → ℕ
+entry s none = 65535
+entry s (some y) = s .label y
+
+-- what the actions of a sequence write, one entry each
+unfoldable pub written : {X : Type 0} → System X → List ℕ → X → List ℕ
+written s [] x = []
+written s (a ∷ w) x = entry s (s .step a x) ∷ written s w (after x (s .step a x))
+
+-- the index of the first barred action, counted from 0, by the first action and what comes later
+unfoldable pub earliest : {X : Type 0} → Option X → Option ℕ → Option ℕ
+earliest none later = some 0
+earliest (some y) later = Option·map suc later
+
+-- the same of a sequence, or none where nothing is barred
+unfoldable pub firstBarred : {X : Type 0} → System X → List ℕ → X → Option ℕ
+firstBarred s [] x = none
+firstBarred s (a ∷ w) x = earliest (s .step a x) (firstBarred s w (after x (s .step a x)))
+
+-- A reading (document 01, as changed by U5 of document 02; an output sequence in the field): its entries in order, and the index of the first barred action,
+-- or none. Where no label is 65,535 the entries alone tell that index (Entries.antt).
 pub record Reading : Type 0 where
-  pub labels : List ℕ
+  pub entries : List ℕ
   pub barred : Option ℕ
 
--- the reading of the empty sequence: one label
-unfoldable pub alone : ℕ → Reading
-alone l = record { labels = l ∷ []; barred = none }
-
--- the reading that ends because its first action is barred
-unfoldable pub stopped : ℕ → Reading
-stopped l = record { labels = l ∷ []; barred = some 0 }
-
--- one label and one action before a reading: the actions' indices rise by one
-unfoldable pub before : ℕ → Reading → Reading
-before l r = record { labels = l ∷ r .labels; barred = Option·map suc (r .barred) }
-
--- what an action that leads to a configuration, or is barred, adds to a reading
-unfoldable pub continued : {X : Type 0} → ℕ → Option X → (X → Reading) → Reading
-continued l none rest = stopped l
-continued l (some y) rest = before l (rest y)
-
--- the reading of an action sequence from a configuration, of whatever length
+-- the reading of an action sequence from a configuration, of whatever length: the label there, and an entry for each action
 unfoldable pub reading : {X : Type 0} → System X → List ℕ → X → Reading
-reading s [] x = alone (s .label x)
-reading s (a ∷ w) x = continued (s .label x) (s .step a x) (reading s w)
+reading s w x = record { entries = s .label x ∷ written s w x; barred = firstBarred s w x }
 
 -- Two configurations, also of different systems, are equivalent (document 01) when all sequences read the same from both.
 abbrev pub Alike : {X Y : Type 0} → System X → System Y → X → Y → Type 0

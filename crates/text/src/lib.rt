@@ -1,7 +1,7 @@
 // Text on standard output, for the programs. What a program writes is tested, not proved.
 // Internal: serves sister crates; a function may ask what its callers have made sure of.
 use answers::Checked;
-use answers::Ending;
+use answers::FirstBarred;
 use answers::Ran;
 use libc::STDOUT_FILENO;
 
@@ -59,11 +59,11 @@ pub fn put_checked(r: Checked) {
     }
 }
 
-fn put_ending(e: Ending) {
-    match e {
-        Ending::Whole => put(b"whole"),
-        Ending::Barred { index } => {
-            put(b"barred at ");
+fn put_first_barred(first: FirstBarred) {
+    match first {
+        FirstBarred::Nothing => put(b"nothing barred"),
+        FirstBarred::At { index } => {
+            put(b"first barred at ");
             put_number(index as u64);
         }
     }
@@ -71,10 +71,10 @@ fn put_ending(e: Ending) {
 
 pub fn put_ran(r: Ran) {
     match r {
-        Ran::Done { labels, ending } => {
-            put_number(labels as u64);
-            put(b" labels, ");
-            put_ending(ending);
+        Ran::Done { entries, barred } => {
+            put_number(entries as u64);
+            put(b" entries, ");
+            put_first_barred(barred);
             put(b"\n");
         }
         Ran::Refused { number, returned } => put_refusal(number, returned),
@@ -86,15 +86,15 @@ fn wide(x: u16) -> u64 {
 }
 
 // Four entries of a buffer.
-pub fn put_labels(labels: &[u16; 4100], at: usize) {
+pub fn put_entries(entries: &[u16; 4100], at: usize) {
     if at < 4096 {
-        put_number(wide(labels[at]));
+        put_number(wide(entries[at]));
         put(b" ");
-        put_number(wide(labels[at + 1]));
+        put_number(wide(entries[at + 1]));
         put(b" ");
-        put_number(wide(labels[at + 2]));
+        put_number(wide(entries[at + 2]));
         put(b" ");
-        put_number(wide(labels[at + 3]));
+        put_number(wide(entries[at + 3]));
         put(b"\n");
     }
 }

@@ -14,7 +14,7 @@ use Rattle.integers.specs.Inverse.{inverse}
 use Rattle.integers.specs.LittleEndian.{joined, unsignedAt, signedOf, signedAt, split, bitsOf}
 use Rattle.systems.specs.Search.{run}
 use Rattle.systems.specs.Lists.{collect}
-use Rattle.systems.specs.System.{alone, stopped, before, continued, reading}
+use Rattle.systems.specs.System.{after, entry, written, earliest, firstBarred, reading}
 use Rattle.systems.specs.Exploration.{place, known, added, visited, visitedAt, visitedNext, explore}
 use Rattle.answers.specs.declared.Checked.{Checked}
 use Rattle.answers.specs.declared.Checked.the-variants.{Fine, Refused}
@@ -40,7 +40,7 @@ pub data Row : Type 0 where
   refused-row : List ℕ → ℕ → ℕ → Row
   -- a sheet's box list
   boxes-row : Sheet → List ℕ → Row
-  -- an action sequence's labels and barred index
+  -- an action sequence's entries and the index of its first barred action
   reading-row : Sheet → List ℕ → List ℕ → Option ℕ → Row
 
 pub sameZ : ℤ → ℤ → Bool
@@ -70,7 +70,7 @@ test (chart-row s l) = sameList (chartOf s) l
 test (accepted-row s l) = sameChecked (sheetCheck s) Fine && sameList (chartOf (decode s)) l
 test (refused-row s n p) = sameChecked (sheetCheck s) (Refused n p)
 test (boxes-row s l) = sameList (boxListOf 2 s) l
-test (reading-row s w l b) = sameList (sheetReading s w .labels) l && sameOption (sheetReading s w .barred) b
+test (reading-row s w l b) = sameList (sheetReading s w .entries) l && sameOption (sheetReading s w .barred) b
 
 -- every row passes
 pub passes : List Row → Bool
@@ -132,10 +132,10 @@ table =
     -- P8
     ∷ chart-row doubling (66 ∷ 67 ∷ 72 ∷ 1 ∷ 0 ∷ 1 ∷ 1 ∷ 10 ∷ 0 ∷ 0 ∷ [])
     ∷ boxes-row doubling (0 ∷ 0 ∷ 0 ∷ 0 ∷ 0 ∷ [])
-    -- P9
-    ∷ reading-row first (0 ∷ 0 ∷ 0 ∷ []) (10 ∷ 10 ∷ 20 ∷ []) (some 2)
+    -- P9, as U5 of document 02 has it
+    ∷ reading-row first (0 ∷ 0 ∷ 0 ∷ []) (10 ∷ 10 ∷ 20 ∷ 65535 ∷ []) (some 2)
     ∷ []
 
 pub worked-examples : T (passes table)
-unfolding passes test table sameZ sameList sameOption sameChecked bytes region carry sheet first mirror doubling range smaller larger contains meet size floorBy floor ceiling inverse split bitsOf collect alone stopped before continued reading place known added visited visitedAt visitedNext explore within inBox placeIn regionNumber regionOf applied updated landing moved step sheetSystem sheetReading emptied cut cuts preimage narrowed classBox volume volumes configurations classOf sameClass blocks targetByte chartRecord chartOf rangeBytes boxRecord boxListOf joined unsignedAt signedOf signedAt vacant run andThen demand numbers numbersIn prefixed valuesIn members moveSize regionSize startValue regionPlace labelAt stateAt lowPlace highPlace movePlace rulePlace factorOf offsetOf ruleOf moveOf rangeAt boxAt moveAt regionAt startOf decode sameBytes checkHeader checkCounts checkLength checkRule checkZeroRule checkMove checkFields checkLabel overlap checkOverlap checkStart every lands checkLanding sheetCheck
+unfolding passes test table sameZ sameList sameOption sameChecked bytes region carry sheet first mirror doubling range smaller larger contains meet size floorBy floor ceiling inverse split bitsOf collect after entry written earliest firstBarred reading place known added visited visitedAt visitedNext explore within inBox placeIn regionNumber regionOf applied updated landing moved step sheetSystem sheetReading emptied cut cuts preimage narrowed classBox volume volumes configurations classOf sameClass blocks targetByte chartRecord chartOf rangeBytes boxRecord boxListOf joined unsignedAt signedOf signedAt vacant run andThen demand numbers numbersIn prefixed valuesIn members moveSize regionSize startValue regionPlace labelAt stateAt lowPlace highPlace movePlace rulePlace factorOf offsetOf ruleOf moveOf rangeAt boxAt moveAt regionAt startOf decode sameBytes checkHeader checkCounts checkLength checkRule checkZeroRule checkMove checkFields checkLabel overlap checkOverlap checkStart every lands checkLanding sheetCheck
 worked-examples = tt

@@ -1,7 +1,7 @@
 use mathlib.Core.Path.{sym, _∙_}
 use Rattle.answers.specs.Stages.{andThen, passed, handed}
 use Rattle.chart_bytes.specs.HeaderLaws.{header-passed}
-use Rattle.chart.specs.Check.{targetsCheck, numbersCheck, barsCheck, formCheck}
+use Rattle.chart.specs.Check.{limitsCheck, numbersCheck, barsCheck, formCheck}
 use borrow.Author.Needs.{needs}
 use Rattle.chart.proofs.check_form.Statement.{statement}
 use Rattle.chart.proofs.check_form.Tie as tie
@@ -20,10 +20,10 @@ unfolding formCheck
 returns c =
     let s = c .before .before .before .before .args .c .now in
     let e = c .before .before .check-header .ensures in
-    e ∙ handed (andThen (targetsCheck s) (andThen (numbersCheck s) (barsCheck s))) (sym e ∙ c .enum-told2 .given .1)
+    e ∙ handed (andThen (limitsCheck s) (andThen (numbersCheck s) (barsCheck s))) (sym e ∙ c .enum-told2 .given .1)
 
-check-targets-requires : tie.Need-check-targets-requires
-check-targets-requires c κs = header-passed (c .before .before .before .before .args .c .now) (sym (c .before .before .check-header .ensures) ∙ c .enum-told .given .1) .1
+check-limits-requires : tie.Need-check-limits-requires
+check-limits-requires c κs = header-passed (c .before .before .before .before .args .c .now) (sym (c .before .before .check-header .ensures) ∙ c .enum-told .given .1) .1
 
 enum-told-3 : tie.Need-enum-told-3
 enum-told-3 c = search needs
@@ -35,7 +35,7 @@ returns-2 : tie.Need-returns-2
 unfolding formCheck
 returns-2 c =
     let s = c .before .before .before .before .before .before .before .args .c .now in
-    let e = c .before .before .check-targets .ensures in
+    let e = c .before .before .check-limits .ensures in
     passed (sym (c .before .before .before .before .before .check-header .ensures) ∙ c .before .before .before .enum-told .given .1)
     (e ∙ handed (andThen (numbersCheck s) (barsCheck s)) (sym e ∙ c .enum-told4 .given .1))
 
@@ -54,7 +54,7 @@ returns-3 c =
     let s = c .before .before .before .before .before .before .before .before .before .before .args .c .now in
     let e = c .before .before .check-numbers .ensures in
     passed (sym (c .before .before .before .before .before .before .before .before .check-header .ensures) ∙ c .before .before .before .before .before .before .enum-told .given .1)
-    (passed (sym (c .before .before .before .before .before .check-targets .ensures) ∙ c .before .before .before .enum-told3 .given .1) (e ∙ handed (barsCheck s) (sym e ∙ c .enum-told6 .given .1)))
+    (passed (sym (c .before .before .before .before .before .check-limits .ensures) ∙ c .before .before .before .enum-told3 .given .1) (e ∙ handed (barsCheck s) (sym e ∙ c .enum-told6 .given .1)))
 
 check-bars-requires : tie.Need-check-bars-requires
 check-bars-requires c κs = header-passed (c .before .before .before .before .before .before .before .before .before .before .args .c .now) (sym (c .before .before .before .before .before .before .before .before .check-header .ensures) ∙ c .before .before .before .before .before .before .enum-told .given .1) .1
@@ -63,7 +63,7 @@ returns-4 : tie.Need-returns-4
 unfolding formCheck
 returns-4 c =
     passed (sym (c .before .before .before .before .before .before .before .before .before .check-header .ensures) ∙ c .before .before .before .before .before .before .before .enum-told .given .1)
-    (passed (sym (c .before .before .before .before .before .before .check-targets .ensures) ∙ c .before .before .before .before .enum-told3 .given .1)
+    (passed (sym (c .before .before .before .before .before .before .check-limits .ensures) ∙ c .before .before .before .before .enum-told3 .given .1)
     (passed (sym (c .before .before .before .check-numbers .ensures) ∙ c .before .enum-told5 .given .1) (c .check-bars .ensures)))
 
 pub check-form-spec : {M : Type 1} → statement M
@@ -74,7 +74,7 @@ check-form-spec =
     enum-told
     enum-told-2
     returns
-    check-targets-requires
+    check-limits-requires
     enum-told-3
     enum-told-4
     returns-2

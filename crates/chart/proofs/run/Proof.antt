@@ -17,7 +17,7 @@ enum-told c = search needs
 walk-requires : tie.Need-walk-requires
 walk-requires c κs =
     let s = c .before .before .before .before .before .before .before .args in
-    let p = run-passed (s .c .now) (s .actions .now) (length (s .labels .now)) (sym (c .before .before .before .check-run .ensures) ∙ c .before .enum-told .given .1) in
+    let p = run-passed (s .c .now) (s .actions .now) (length (s .entries .now)) (sym (c .before .before .before .check-run .ensures) ∙ c .before .enum-told .given .1) in
     (p .0 .shape, (p .0 .targets, (p .1 .actions, p .1 .fits)))
 
 same-length : tie.Need-same-length
@@ -26,12 +26,12 @@ same-length c = search needs
 returns : tie.Need-returns
 returns c =
     let s = c .before .before .before .before .before .before .before .before .before .before .args in
-    ran-done (s .c .now) (s .actions .now) (s .labels .now) (sym (c .before .before .before .before .before .before .check-run .ensures) ∙ c .before .before .before .before .enum-told .given .1) (c .before .before .walk .ensures .0) (c .before .before .walk .ensures .1)
+    ran-done (s .c .now) (s .actions .now) (s .entries .now) (sym (c .before .before .before .before .before .before .check-run .ensures) ∙ c .before .before .before .before .enum-told .given .1) (c .before .before .walk .ensures .0) (c .before .before .walk .ensures .1)
 
 returns-2 : tie.Need-returns-2
 returns-2 c =
     let s = c .before .before .before .before .before .before .before .args in
-    ran-refused (s .c .now) (s .actions .now) (s .labels .now) (sym (c .before .before .before .check-run .ensures) ∙ c .before .checked .given .1)
+    ran-refused (s .c .now) (s .actions .now) (s .entries .now) (sym (c .before .before .before .check-run .ensures) ∙ c .before .checked .given .1)
 
 pub run-spec : {M : Type 1} → statement M
 run-spec =

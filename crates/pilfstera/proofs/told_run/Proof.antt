@@ -8,8 +8,8 @@ use Rattle.pilfstera.proofs.told_run.Tie as tie
 enum-known-ran : tie.Need-enum-known-ran
 enum-known-ran c = search needs
 
-ending-index-requires : tie.Need-ending-index-requires
-ending-index-requires c κs = search needs
+barred-index-requires : tie.Need-barred-index-requires
+barred-index-requires c κs = search needs
 
 enum-known-ran-2 : tie.Need-enum-known-ran-2
 enum-known-ran-2 c = search needs
@@ -19,7 +19,7 @@ unfolding runNumber runReturned runBarred
 returns c =
     let a = c .before .before .before .before .args in
     let e = c .before .before .ran .given .1 in
-    (sym (ap runNumber e), (sym (ap runReturned e), c .ending-index .ensures ∙ sym (ap (λ (r : Ran). runBarred r (a .actions) (a .barred .now)) e)))
+    (sym (ap runNumber e), (sym (ap runReturned e), c .barred-index .ensures ∙ sym (ap (λ (r : Ran). runBarred r (a .actions) (a .barred .now)) e)))
 
 returns-2 : tie.Need-returns-2
 unfolding runNumber runReturned runBarred
@@ -30,4 +30,4 @@ returns-2 c =
 
 pub told-run-spec : {M : Type 1} → statement M
 told-run-spec =
-    tie.close (tie.spec enum-known-ran ending-index-requires enum-known-ran-2 returns returns-2)
+    tie.close (tie.spec enum-known-ran barred-index-requires enum-known-ran-2 returns returns-2)

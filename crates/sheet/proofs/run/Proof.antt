@@ -25,13 +25,13 @@ enum-told c = search needs
 shape-of-requires : tie.Need-shape-of-requires
 shape-of-requires c κs =
     let a = c .before .before .before .before .before .before .args in
-    let p = run-passed (a .s .now) (a .actions .now) (length (a .labels .now)) (sym (c .before .before .check-run .ensures) ∙ c .enum-told .given .1) in
+    let p = run-passed (a .s .now) (a .actions .now) (length (a .entries .now)) (sym (c .before .before .check-run .ensures) ∙ c .enum-told .given .1) in
     omega (arith, header-end (a .s .now) (stages (a .s .now) (p .0) .shape))
 
 walk-requires : tie.Need-walk-requires
 walk-requires c κs =
     let a = c .before .before .before .before .before .before .before .before .args in
-    let p = run-passed (a .s .now) (a .actions .now) (length (a .labels .now)) (sym (c .before .before .before .before .check-run .ensures) ∙ c .before .before .enum-told .given .1) in
+    let p = run-passed (a .s .now) (a .actions .now) (length (a .entries .now)) (sym (c .before .before .before .before .check-run .ensures) ∙ c .before .before .enum-told .given .1) in
     (read-shape (a .s .now) (c .before .shape-of .ensures) (stages (a .s .now) (p .0) .shape), (p .0, (p .1 .actions, p .1 .fits)))
 
 same-length : tie.Need-same-length
@@ -41,13 +41,13 @@ returns : tie.Need-returns
 unfolding sheetRan sheetLeft
 returns c =
     let a = c .before .before .before .before .before .before .before .before .before .before .before .args in
-    run-done (sheetReading (decode (a .s .now)) (a .actions .now)) (a .labels .now) (sym (c .before .before .before .before .before .before .before .check-run .ensures) ∙ c .before .before .before .before .before .enum-told .given .1) (c .before .before .walk .ensures .0) (c .before .before .walk .ensures .1)
+    run-done (sheetReading (decode (a .s .now)) (a .actions .now)) (a .entries .now) (sym (c .before .before .before .before .before .before .before .check-run .ensures) ∙ c .before .before .before .before .before .enum-told .given .1) (c .before .before .walk .ensures .0) (c .before .before .walk .ensures .1)
 
 returns-2 : tie.Need-returns-2
 unfolding sheetRan sheetLeft
 returns-2 c =
     let a = c .before .before .before .before .before .before .before .args in
-    run-refused (sheetReading (decode (a .s .now)) (a .actions .now)) (a .labels .now) (sym (c .before .before .before .check-run .ensures) ∙ c .before .checked .given .1)
+    run-refused (sheetReading (decode (a .s .now)) (a .actions .now)) (a .entries .now) (sym (c .before .before .before .check-run .ensures) ∙ c .before .checked .given .1)
 
 pub run-spec : {M : Type 1} → statement M
 run-spec =

@@ -1,67 +1,57 @@
 use Prim.Native.Nat.{_-_, _≤_}
 use native.Mathlib.Omega.{arith}
-use lib.ListN.{getD, set, length-set}
-use Rattle.chart.specs.Walk.{Walk, walk-start, walk-old, open-target, walk-step, walk-barred, walk-whole}
+use lib.ListN.{set, length-set}
+use Rattle.chart.specs.Walk.{Walk, walk-start, walk-old, walk-step, walk-done}
+use borrow.Author.Needs.{needs}
 use Rattle.chart.proofs.walk.walk.Statement.{statement}
 use Rattle.chart.proofs.walk.walk.Tie as tie
 
 abbrev Inv-loop : tie.InvT-loop
-Inv-loop c actions labels₀ block₀ i₀ i-end labels block i = (i ≤ i-end) × Walk c actions labels₀ i block labels
+Inv-loop c actions entries₀ block₀ first₀ i₀ i-end entries block first i = (i ≤ i-end) × Walk c actions entries₀ i block first entries
 
 abbrev μ-loop : tie.MeasureT-loop
-μ-loop c actions labels₀ block₀ i₀ i-end labels block i = i-end - i
+μ-loop c actions entries₀ block₀ first₀ i₀ i-end entries block first i = i-end - i
 
 label-of-requires : tie.Need-label-of-requires Inv-loop μ-loop
 label-of-requires c κs = (c .before .before .before .pre .0, omega (arith, c .before .before .before .pre .0 .blocks-some))
 
-slice-write-labels : tie.Need-slice-write-labels Inv-loop μ-loop
-slice-write-labels c = omega (arith, c .before .before .before .before .pre .1 .1 .1)
+slice-write-entries : tie.Need-slice-write-entries Inv-loop μ-loop
+slice-write-entries c = omega (arith, c .before .before .before .before .pre .1 .1 .1)
 
 loop-holds : tie.Need-loop-holds Inv-loop μ-loop
 loop-holds c =
     let s = c .before .before .before .before in
-    (omega arith, walk-start (s .args .c .now) (s .args .actions .now) (s .args .labels .now) (c .label-of .result) (omega (arith, s .pre .0 .blocks-some)) (omega (arith, s .pre .1 .1 .1)) (c .label-of .ensures))
+    (omega arith, walk-start (s .args .c .now) (s .args .actions .now) (s .args .entries .now) (c .label-of .result) (omega (arith, s .pre .0 .blocks-some)) (omega (arith, s .pre .1 .1 .1)) (c .label-of .ensures))
 
-shared-slice-read-target-of : tie.Need-shared-slice-read-target-of Inv-loop μ-loop
-shared-slice-read-target-of c = omega arith
+shared-slice-read-act : tie.Need-shared-slice-read-act Inv-loop μ-loop
+shared-slice-read-act c = omega arith
 
-cast-target-of : tie.Need-cast-target-of Inv-loop μ-loop
-cast-target-of c = omega (arith, c .shared-slice-known3 .given (c .before .before .loop .i))
+cast-act : tie.Need-cast-act Inv-loop μ-loop
+cast-act c = omega (arith, c .shared-slice-known3 .given (c .before .before .loop .i))
 
-target-of-requires : tie.Need-target-of-requires Inv-loop μ-loop
-target-of-requires c κs = let l = c .before .before .loop in (c .before .before .before .before .before .before .before .pre .0, (l .inv .1 .block-there, c .before .before .before .before .before .before .before .pre .1 .1 .0 (c .before .before .loop .i) (omega arith)))
+act-requires : tie.Need-act-requires Inv-loop μ-loop
+act-requires c κs =
+    let s = c .before .before .before .before .before .before .before in
+    let l = c .before .before .loop in
+    (s .pre .0, (s .pre .1 .0, (l .inv .1 .block-there, s .pre .1 .1 .0 (c .before .before .loop .i) (omega arith))))
 
-add-t14 : tie.Need-add-t14 Inv-loop μ-loop
-add-t14 c = omega arith
+add-entries : tie.Need-add-entries Inv-loop μ-loop
+add-entries c = omega arith
 
-same-length : tie.Need-same-length Inv-loop μ-loop
-same-length c =
-    let s = c .before .before .before .before .before .before .before .before .before .args in
-    let l = c .before .before .before .before .loop in
-    walk-old (s .c .now) (s .actions .now) (s .labels .now) (c .before .before .before .before .before .label-of .result) (l .i) (l .block) (l .labels) (l .inv .1) .walked .same-length
+mul-entries : tie.Need-mul-entries Inv-loop μ-loop
+mul-entries c =
+    let s = c .before .before .before .before .before .before .before .before in
+    let l = c .before .before .before .loop in
+    omega (arith, l .inv .1 .walked .same-length, length-set (s .args .entries .now) 0 (c .before .before .before .before .label-of .result), s .pre .1 .1 .1)
 
-returns : tie.Need-returns Inv-loop μ-loop
-returns c =
-    let s = c .before .before .before .before .before .before .before .before .before .args in
-    let l = c .before .before .before .before .loop in
-    let k = walk-old (s .c .now) (s .actions .now) (s .labels .now) (c .before .before .before .before .before .label-of .result) (l .i) (l .block) (l .labels) (l .inv .1) in
-    walk-barred (s .c .now) (s .actions .now) (s .labels .now) (l .labels) (l .i) (l .block) (c .before .target-of .result) k (omega arith)
-    (omega (arith, k .walked .same-length, c .before .before .before .before .before .before .before .before .before .pre .1 .1 .1)) (c .before .before .before .before .before .before .before .before .before .pre .1 .1 .0 (c .before .before .before .before .loop .i) (omega arith)) (c .before .target-of .ensures .0) (c .if1 .taken)
+slice-write-entries-2 : tie.Need-slice-write-entries-2 Inv-loop μ-loop
+slice-write-entries-2 c =
+    let s = c .before .before .before .before .before .before .before .before in
+    let l = c .before .before .before .loop in
+    omega (arith, l .inv .1 .walked .same-length, length-set (s .args .entries .now) 0 (c .before .before .before .before .label-of .result), s .pre .1 .1 .1)
 
-label-of-requires-2 : tie.Need-label-of-requires-2 Inv-loop μ-loop
-label-of-requires-2 c κs =
-    let s = c .before .before .before .before .before .before .before .before .before in
-    let l = c .before .before .before .before .loop in
-    (s .pre .0, omega (arith, s .pre .0 .blocks-some, open-target (s .args .c .now) (s .pre .1 .0) (l .block) (getD (s .args .actions .now) (l .i) 0) (c .before .target-of .result) (l .inv .1 .block-there) (c .before .before .before .before .before .before .before .before .before .pre .1 .1 .0 (c .before .before .before .before .loop .i) (omega arith)) (c .before .target-of .ensures .0) (c .if1 .left)))
-
-add-labels : tie.Need-add-labels Inv-loop μ-loop
-add-labels c = omega arith
-
-mul-labels : tie.Need-mul-labels Inv-loop μ-loop
-mul-labels c = omega (arith, c .before .before .before .before .before .loop .inv .1 .walked .same-length, length-set (c .before .before .before .before .before .before .before .before .before .before .args .labels .now) 0 (c .before .before .before .before .before .before .label-of .result), c .before .before .before .before .before .before .before .before .before .before .pre .1 .1 .1)
-
-slice-write-labels-2 : tie.Need-slice-write-labels-2 Inv-loop μ-loop
-slice-write-labels-2 c = omega (arith, c .before .before .before .before .before .loop .inv .1 .walked .same-length, length-set (c .before .before .before .before .before .before .before .before .before .before .args .labels .now) 0 (c .before .before .before .before .before .before .label-of .result), c .before .before .before .before .before .before .before .before .before .before .pre .1 .1 .1)
+noted-requires : tie.Need-noted-requires Inv-loop μ-loop
+noted-requires c κs = search needs
 
 add-i : tie.Need-add-i Inv-loop μ-loop
 add-i c = omega arith
@@ -71,33 +61,30 @@ loop-less c = omega arith
 
 loop-again : tie.Need-loop-again Inv-loop μ-loop
 loop-again c =
-    let s = c .before .before .before .before .before .before .before .before .before .before in
-    let l = c .before .before .before .before .before .loop in
-    let t = c .before .before .target-of in
-    let n = length-set (s .args .labels .now) 0 (c .before .before .before .before .before .before .label-of .result) in
-    let a = c .before .before .before .before .before .before .before .before .before .before .pre .1 .1 .0 (c .before .before .before .before .before .loop .i) (omega arith) in (
+    let s = c .before .before .before .before .before .before .before .before .before in
+    let l = c .before .before .before .before .loop in
+    let v = c .before .before .before .before .before .label-of .result in
+    let n = length-set (s .args .entries .now) 0 v in (
       omega arith,
-      walk-step (s .args .c .now) (s .args .actions .now) (set (s .args .labels .now) 0 (c .before .before .before .before .before .before .label-of .result)) (l .labels) (l .i) (l .block) (t .result) (c .label-of2 .result)
-          (l .inv .1) (omega arith) (omega (arith, l .inv .1 .walked .same-length, s .pre .1 .1 .1)) a (t .ensures .0) (c .before .if1 .left) (t .ensures .1)
-          (open-target (s .args .c .now) (s .pre .1 .0) (l .block) (getD (s .args .actions .now) (l .i) 0) (t .result) (l .inv .1 .block-there) a (t .ensures .0) (c .before .if1 .left))
-          (c .label-of2 .ensures),
+      walk-step (s .args .c .now) (s .args .actions .now) (set (s .args .entries .now) 0 v) (l .entries) (l .i) (l .block) (l .first) (c .noted .result) (c .before .act .result) (l .inv .1)
+          (omega arith) (omega (arith, l .inv .1 .walked .same-length, s .pre .1 .1 .1)) (c .before .act .ensures) (c .noted .ensures),
     )
 
-add-t20 : tie.Need-add-t20 Inv-loop μ-loop
-add-t20 c = omega (arith, c .before .before .before .before .before .before .pre .1 .1 .1)
+add-t18 : tie.Need-add-t18 Inv-loop μ-loop
+add-t18 c = omega (arith, c .before .before .before .before .before .before .pre .1 .1 .1)
 
-same-length-2 : tie.Need-same-length-2 Inv-loop μ-loop
-same-length-2 c =
+same-length : tie.Need-same-length Inv-loop μ-loop
+same-length c =
     let s = c .before .before .before .before .before .before .args in
     let l = c .before .loop in
-    walk-old (s .c .now) (s .actions .now) (s .labels .now) (c .before .before .label-of .result) (l .i) (l .block) (l .labels) (l .inv .1) .walked .same-length
+    walk-old (s .c .now) (s .actions .now) (s .entries .now) (c .before .before .label-of .result) (l .i) (l .block) (l .first) (l .entries) (l .inv .1) .walked .same-length
 
-returns-2 : tie.Need-returns-2 Inv-loop μ-loop
-returns-2 c =
-    let s = c .before .before .before .before .before .before .args in
+returns : tie.Need-returns Inv-loop μ-loop
+returns c =
+    let s = c .before .before .before .before .before .before in
     let l = c .before .loop in
-    let k = walk-old (s .c .now) (s .actions .now) (s .labels .now) (c .before .before .label-of .result) (l .i) (l .block) (l .labels) (l .inv .1) in
-    walk-whole (s .c .now) (s .actions .now) (s .labels .now) (l .labels) (l .i) (l .block) k (omega arith) (omega (arith, k .walked .same-length, c .before .before .before .before .before .before .pre .1 .1 .1))
+    let k = walk-old (s .args .c .now) (s .args .actions .now) (s .args .entries .now) (c .before .before .label-of .result) (l .i) (l .block) (l .first) (l .entries) (l .inv .1) in
+    walk-done (s .args .c .now) (s .args .actions .now) (s .args .entries .now) (l .entries) (l .i) (l .block) (l .first) k (omega arith) (omega (arith, k .walked .same-length, s .pre .1 .1 .1))
 
 pub walk-spec : {M : Type 1} → statement M
 walk-spec =
@@ -106,21 +93,18 @@ walk-spec =
     Inv-loop
     μ-loop
     label-of-requires
-    slice-write-labels
+    slice-write-entries
     loop-holds
-    shared-slice-read-target-of
-    cast-target-of
-    target-of-requires
-    add-t14
-    same-length
-    returns
-    label-of-requires-2
-    add-labels
-    mul-labels
-    slice-write-labels-2
+    shared-slice-read-act
+    cast-act
+    act-requires
+    add-entries
+    mul-entries
+    slice-write-entries-2
+    noted-requires
     add-i
     loop-less
     loop-again
-    add-t20
-    same-length-2
-    returns-2)
+    add-t18
+    same-length
+    returns)

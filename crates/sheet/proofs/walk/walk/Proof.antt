@@ -1,16 +1,16 @@
 use Prim.Native.Nat.{_-_, _≤_}
 use native.Mathlib.Omega.{arith}
-use lib.ListN.{getD, set, length-set}
-use Rattle.sheet.specs.Walk.{Walk, at-start, at-land, at-within, rules-safe, walk-start, walk-old, walk-step, walk-barred, walk-whole, number-read}
+use lib.ListN.{set, length-set}
+use Rattle.sheet.specs.Walk.{Walk, at-start, walk-start, walk-old, walk-step, walk-done, number-read}
 use borrow.Author.Needs.{needs}
 use Rattle.sheet.proofs.walk.walk.Statement.{statement}
 use Rattle.sheet.proofs.walk.walk.Tie as tie
 
 abbrev Inv-loop : tie.InvT-loop
-Inv-loop s shape actions labels₀ x₀ i₀ n₀ n-end labels x i n = (n ≤ n-end) × Walk s actions labels₀ n x i labels
+Inv-loop s shape actions entries₀ x₀ i₀ first₀ n₀ n-end entries x i first n = (n ≤ n-end) × Walk s actions entries₀ n x i first entries
 
 abbrev μ-loop : tie.MeasureT-loop
-μ-loop s shape actions labels₀ x₀ i₀ n₀ n-end labels x i n = n-end - n
+μ-loop s shape actions entries₀ x₀ i₀ first₀ n₀ n-end entries x i first n = n-end - n
 
 start-of-requires : tie.Need-start-of-requires Inv-loop μ-loop
 start-of-requires c κs = c .before .before .before .pre .0
@@ -26,119 +26,79 @@ label-at-requires c κs =
     let k = at-start (s .args .s .now) (λ j. c .before .before .before .before .shared-slice-known .given j .fits) (s .pre .1 .0) (x .result) (i .result) (x .ensures) (number-read (s .pre .0) (x .result) (i .result) (i .ensures)) in
     (s .pre .0, omega (arith, k .there, s .pre .0 .regions-are))
 
-slice-write-labels : tie.Need-slice-write-labels Inv-loop μ-loop
-slice-write-labels c = omega (arith, c .before .before .before .before .before .before .pre .1 .1 .1)
+slice-write-entries : tie.Need-slice-write-entries Inv-loop μ-loop
+slice-write-entries c = omega (arith, c .before .before .before .before .before .before .pre .1 .1 .1)
 
 loop-holds : tie.Need-loop-holds Inv-loop μ-loop
 loop-holds c =
     let s = c .before .before .before .before .before .before in
     let x = c .before .before .start-of in
     let i = c .before .region-of in
-    (omega arith, walk-start (s .args .s .now) (s .args .actions .now) (λ j. c .before .before .before .before .before .shared-slice-known .given j .fits) (s .pre .1 .0) (s .args .labels .now) (x .result) (i .result) (c .label-at .result) (omega (arith, s .pre .1 .1 .1)) (x .ensures) (number-read (s .pre .0) (x .result) (i .result) (i .ensures)) (c .label-at .ensures))
+    (omega arith, walk-start (s .args .s .now) (s .args .actions .now) (λ j. c .before .before .before .before .before .shared-slice-known .given j .fits) (s .pre .1 .0) (s .args .entries .now) (x .result) (i .result) (c .label-at .result) (omega (arith, s .pre .1 .1 .1)) (x .ensures) (number-read (s .pre .0) (x .result) (i .result) (i .ensures)) (c .label-at .ensures))
 
-shared-slice-read-move-at : tie.Need-shared-slice-read-move-at Inv-loop μ-loop
-shared-slice-read-move-at c = omega arith
+shared-slice-read-act : tie.Need-shared-slice-read-act Inv-loop μ-loop
+shared-slice-read-act c = omega arith
 
-cast-move-at : tie.Need-cast-move-at Inv-loop μ-loop
-cast-move-at c = omega (arith, c .shared-slice-known3 .given (c .before .before .loop .n))
+cast-act : tie.Need-cast-act Inv-loop μ-loop
+cast-act c = omega (arith, c .shared-slice-known3 .given (c .before .before .loop .n))
 
-move-at-requires : tie.Need-move-at-requires Inv-loop μ-loop
-move-at-requires c κs =
+act-requires : tie.Need-act-requires Inv-loop μ-loop
+act-requires c κs =
     let s = c .before .before .before .before .before .before .before .before .before in
     let l = c .before .before .loop in
-    (s .pre .0, (omega (arith, l .inv .1 .place .there, s .pre .0 .regions-are), omega (arith, s .pre .1 .1 .0 (c .before .before .loop .n) (omega arith), s .pre .0 .actions-are)))
+    (s .pre .0, (s .pre .1 .0, (l .inv .1 .place, s .pre .1 .1 .0 (c .before .before .loop .n) (omega arith))))
 
-enum-told : tie.Need-enum-told Inv-loop μ-loop
-enum-told c = search needs
+add-entries : tie.Need-add-entries Inv-loop μ-loop
+add-entries c = omega (arith, c .before .before .before .loop-test .taken, c .before .before .before .before .before .before .before .before .before .before .before .good)
 
-enum-told-2 : tie.Need-enum-told-2 Inv-loop μ-loop
-enum-told-2 c = search needs
+mul-entries : tie.Need-mul-entries Inv-loop μ-loop
+mul-entries c =
+    let s = c .before .before .before .before .before .before .before .before .before .before .before in
+    let l = c .before .before .before .before .loop in
+    omega (arith, c .before .before .before .loop-test .taken, s .good, l .inv .1 .walked .same-length, length-set (s .args .entries .now) 0 (c .before .before .before .before .before .label-at .result), s .pre .1 .1 .1)
 
-add-t17 : tie.Need-add-t17 Inv-loop μ-loop
-add-t17 c = omega arith
+slice-write-entries-2 : tie.Need-slice-write-entries-2 Inv-loop μ-loop
+slice-write-entries-2 c =
+    let s = c .before .before .before .before .before .before .before .before .before .before .before in
+    let l = c .before .before .before .before .loop in
+    omega (arith, c .before .before .before .loop-test .taken, s .good, l .inv .1 .walked .same-length, length-set (s .args .entries .now) 0 (c .before .before .before .before .before .label-at .result), s .pre .1 .1 .1)
 
-same-length : tie.Need-same-length Inv-loop μ-loop
-same-length c =
-    let s = c .before .before .before .before .before .before .before .before .before .before .before .before in
-    let l = c .before .before .before .before .before .loop in
-    let k = walk-old (s .args .s .now) (s .args .actions .now) (λ j. c .before .before .before .before .before .before .before .before .before .before .before .shared-slice-known .given j .fits) (s .pre .1 .0) (s .args .labels .now) (c .before .before .before .before .before .before .label-at .result) (l .n) (l .x) (l .i) (l .labels) (l .inv .1) in
-    k .walked .same-length
-
-returns : tie.Need-returns Inv-loop μ-loop
-returns c =
-    let s = c .before .before .before .before .before .before .before .before .before .before .before .before in
-    let l = c .before .before .before .before .before .loop in
-    let k = walk-old (s .args .s .now) (s .args .actions .now) (λ j. c .before .before .before .before .before .before .before .before .before .before .before .shared-slice-known .given j .fits) (s .pre .1 .0) (s .args .labels .now) (c .before .before .before .before .before .before .label-at .result) (l .n) (l .x) (l .i) (l .labels) (l .inv .1) in
-    walk-barred (s .args .s .now) (s .args .actions .now) (λ j. c .before .before .before .before .before .before .before .before .before .before .before .shared-slice-known .given j .fits) (s .pre .1 .0) (s .args .labels .now) (l .labels) (l .n) (l .x) (l .i) (c .before .before .move-at .result) k (omega arith)
-    (omega (arith, k .walked .same-length, s .pre .1 .1 .1)) (s .pre .1 .1 .0 (c .before .before .before .before .before .loop .n) (omega arith)) (c .before .before .move-at .ensures) (c .enum-told2 .given .1)
-
-land-requires : tie.Need-land-requires Inv-loop μ-loop
-land-requires c κs =
-    let s = c .before .before .before .before .before .before .before .before .before .before .before .before in
-    let l = c .before .before .before .before .before .loop in
-    let m = c .before .before .move-at in (
-      rules-safe (s .args .s .now) (λ j. c .before .before .before .before .before .before .before .before .before .before .before .shared-slice-known .given j .fits) (s .pre .1 .0) (l .x) (l .i) (getD (s .args .actions .now) (l .n) 0) (l .inv .1 .place) (s .pre .1 .1 .0 (c .before .before .before .before .before .loop .n) (omega arith)) (m .result) (m .ensures) (c .enum-told .given .1),
-      at-within (s .args .s .now) (λ j. c .before .before .before .before .before .before .before .before .before .before .before .shared-slice-known .given j .fits) (s .pre .1 .0) (l .x) (l .i) (l .inv .1 .place),
-    )
-
-region-of-requires-2 : tie.Need-region-of-requires-2 Inv-loop μ-loop
-region-of-requires-2 c κs = c .before .before .before .before .before .before .before .before .before .before .before .before .before .pre .0
-
-label-at-requires-2 : tie.Need-label-at-requires-2 Inv-loop μ-loop
-label-at-requires-2 c κs =
-    let s = c .before .before .before .before .before .before .before .before .before .before .before .before .before .before in
-    let l = c .before .before .before .before .before .before .before .loop in
-    let m = c .before .before .before .before .move-at in
-    let y = c .before .land in
-    let j = c .region-of2 in
-    let k = at-land (s .args .s .now) (λ j. c .before .before .before .before .before .before .before .before .before .before .before .before .before .shared-slice-known .given j .fits) (s .pre .1 .0) (l .x) (l .i) (getD (s .args .actions .now) (l .n) 0) (l .inv .1 .place) (s .pre .1 .1 .0 (c .before .before .before .before .before .before .before .loop .n) (omega (arith, c .before .before .before .before .before .before .loop-test .taken))) (m .result) (m .ensures) (y .result) (j .result) (c .before .before .enum-told .given .1) (y .ensures) (number-read (s .pre .0) (y .result) (j .result) (j .ensures)) in
-    (s .pre .0, omega (arith, k .there, s .pre .0 .regions-are))
-
-add-labels : tie.Need-add-labels Inv-loop μ-loop
-add-labels c = omega (arith, c .before .before .before .before .before .before .before .before .loop .inv .0, c .before .before .before .before .before .before .before .loop-test .taken, c .before .before .before .before .before .before .before .before .before .before .before .before .before .before .before .good)
-
-mul-labels : tie.Need-mul-labels Inv-loop μ-loop
-mul-labels c = omega (arith, c .before .before .before .before .before .before .before .before .loop .inv .0, c .before .before .before .before .before .before .before .loop-test .taken, c .before .before .before .before .before .before .before .before .before .before .before .before .before .before .before .good, c .before .before .before .before .before .before .before .before .loop .inv .1 .walked .same-length, length-set (c .before .before .before .before .before .before .before .before .before .before .before .before .before .before .before .args .labels .now) 0 (c .before .before .before .before .before .before .before .before .before .label-at .result), c .before .before .before .before .before .before .before .before .before .before .before .before .before .before .before .pre .1 .1 .1)
-
-slice-write-labels-2 : tie.Need-slice-write-labels-2 Inv-loop μ-loop
-slice-write-labels-2 c = omega (arith, c .before .before .before .before .before .before .before .before .loop .inv .0, c .before .before .before .before .before .before .before .loop-test .taken, c .before .before .before .before .before .before .before .before .before .before .before .before .before .before .before .good, c .before .before .before .before .before .before .before .before .loop .inv .1 .walked .same-length, length-set (c .before .before .before .before .before .before .before .before .before .before .before .before .before .before .before .args .labels .now) 0 (c .before .before .before .before .before .before .before .before .before .label-at .result), c .before .before .before .before .before .before .before .before .before .before .before .before .before .before .before .pre .1 .1 .1)
+noted-requires : tie.Need-noted-requires Inv-loop μ-loop
+noted-requires c κs = search needs
 
 add-n : tie.Need-add-n Inv-loop μ-loop
-add-n c = omega (arith, c .before .before .before .before .before .before .before .before .loop .inv .0, c .before .before .before .before .before .before .before .loop-test .taken, c .before .before .before .before .before .before .before .before .before .before .before .before .before .before .before .good)
+add-n c = omega (arith, c .before .before .before .before .loop-test .taken, c .before .before .before .before .before .before .before .before .before .before .before .before .good)
 
 loop-less : tie.Need-loop-less Inv-loop μ-loop
-loop-less c = omega (arith, c .before .before .before .before .before .before .before .before .loop .inv .0, c .before .before .before .before .before .before .before .loop-test .taken)
+loop-less c = omega (arith, c .before .before .before .before .loop-test .taken, c .before .before .before .before .before .loop .inv .0)
 
 loop-again : tie.Need-loop-again Inv-loop μ-loop
 loop-again c =
-    let s = c .before .before .before .before .before .before .before .before .before .before .before .before .before .before .before in
-    let l = c .before .before .before .before .before .before .before .before .loop in
-    let m = c .before .before .before .before .before .move-at in
-    let y = c .before .before .land in
-    let j = c .before .region-of2 in
-    let n = length-set (s .args .labels .now) 0 (c .before .before .before .before .before .before .before .before .before .label-at .result) in (
-      omega (arith, l .inv .0, c .before .before .before .before .before .before .before .loop-test .taken),
-      walk-step (s .args .s .now) (s .args .actions .now) (λ j. c .before .before .before .before .before .before .before .before .before .before .before .before .before .before .shared-slice-known .given j .fits) (s .pre .1 .0) (set (s .args .labels .now) 0 (c .before .before .before .before .before .before .before .before .before .label-at .result)) (l .labels) (l .n) (c .label-at2 .result) (l .x) (y .result) (l .i) (j .result) (m .result) (l .inv .1)
-          (omega (arith, c .before .before .before .before .before .before .before .loop-test .taken)) (omega (arith, c .before .before .before .before .before .before .before .loop-test .taken, n, l .inv .1 .walked .same-length, s .pre .1 .1 .1)) (s .pre .1 .1 .0 (c .before .before .before .before .before .before .before .before .loop .n) (omega (arith, c .before .before .before .before .before .before .before .loop-test .taken))) (m .ensures) (c .before .before .before .enum-told .given .1) (y .ensures)
-          (number-read (s .pre .0) (y .result) (j .result) (j .ensures)) (c .label-at2 .ensures),
+    let s = c .before .before .before .before .before .before .before .before .before .before .before .before in
+    let l = c .before .before .before .before .before .loop in
+    let t = c .before .before .before .before .loop-test .taken in
+    let v = c .before .before .before .before .before .before .label-at .result in
+    let n = length-set (s .args .entries .now) 0 v in (
+      omega (arith, l .inv .0, t),
+      walk-step (s .args .s .now) (s .args .actions .now) (λ j. c .before .before .before .before .before .before .before .before .before .before .before .shared-slice-known .given j .fits) (s .pre .1 .0) (set (s .args .entries .now) 0 v) (l .entries) (l .n) (l .x) (l .i) (l .first) (c .noted .result) (c .before .before .act .result) (l .inv .1)
+          (omega (arith, t)) (omega (arith, t, n, l .inv .1 .walked .same-length, s .pre .1 .1 .1)) (c .before .before .act .ensures) (c .noted .ensures),
     )
 
-add-t23 : tie.Need-add-t23 Inv-loop μ-loop
-add-t23 c = omega (arith, c .before .before .before .before .before .before .before .before .pre .1 .1 .1)
+add-t20 : tie.Need-add-t20 Inv-loop μ-loop
+add-t20 c = omega (arith, c .before .before .before .before .before .before .before .before .pre .1 .1 .1)
 
-same-length-2 : tie.Need-same-length-2 Inv-loop μ-loop
-same-length-2 c =
+same-length : tie.Need-same-length Inv-loop μ-loop
+same-length c =
     let s = c .before .before .before .before .before .before .before .before in
     let l = c .before .loop in
-    let k = walk-old (s .args .s .now) (s .args .actions .now) (λ j. c .before .before .before .before .before .before .before .shared-slice-known .given j .fits) (s .pre .1 .0) (s .args .labels .now) (c .before .before .label-at .result) (l .n) (l .x) (l .i) (l .labels) (l .inv .1) in
-    k .walked .same-length
+    walk-old (s .args .s .now) (s .args .actions .now) (λ j. c .before .before .before .before .before .before .before .shared-slice-known .given j .fits) (s .pre .1 .0) (s .args .entries .now) (c .before .before .label-at .result) (l .n) (l .x) (l .i) (l .first) (l .entries) (l .inv .1) .walked .same-length
 
-returns-2 : tie.Need-returns-2 Inv-loop μ-loop
-returns-2 c =
+returns : tie.Need-returns Inv-loop μ-loop
+returns c =
     let s = c .before .before .before .before .before .before .before .before in
     let l = c .before .loop in
-    let k = walk-old (s .args .s .now) (s .args .actions .now) (λ j. c .before .before .before .before .before .before .before .shared-slice-known .given j .fits) (s .pre .1 .0) (s .args .labels .now) (c .before .before .label-at .result) (l .n) (l .x) (l .i) (l .labels) (l .inv .1) in
-    walk-whole (s .args .s .now) (s .args .actions .now) (λ j. c .before .before .before .before .before .before .before .shared-slice-known .given j .fits) (s .pre .1 .0) (s .args .labels .now) (l .labels) (l .n) (l .x) (l .i) k (omega arith) (omega (arith, k .walked .same-length, s .pre .1 .1 .1))
+    let k = walk-old (s .args .s .now) (s .args .actions .now) (λ j. c .before .before .before .before .before .before .before .shared-slice-known .given j .fits) (s .pre .1 .0) (s .args .entries .now) (c .before .before .label-at .result) (l .n) (l .x) (l .i) (l .first) (l .entries) (l .inv .1) in
+    walk-done (s .args .s .now) (s .args .actions .now) (λ j. c .before .before .before .before .before .before .before .shared-slice-known .given j .fits) (s .pre .1 .0) (s .args .entries .now) (l .entries) (l .n) (l .x) (l .i) (l .first) k (omega arith) (omega (arith, k .walked .same-length, s .pre .1 .1 .1))
 
 pub walk-spec : {M : Type 1} → statement M
 walk-spec =
@@ -149,25 +109,18 @@ walk-spec =
     start-of-requires
     region-of-requires
     label-at-requires
-    slice-write-labels
+    slice-write-entries
     loop-holds
-    shared-slice-read-move-at
-    cast-move-at
-    move-at-requires
-    enum-told
-    enum-told-2
-    add-t17
-    same-length
-    returns
-    land-requires
-    region-of-requires-2
-    label-at-requires-2
-    add-labels
-    mul-labels
-    slice-write-labels-2
+    shared-slice-read-act
+    cast-act
+    act-requires
+    add-entries
+    mul-entries
+    slice-write-entries-2
+    noted-requires
     add-n
     loop-less
     loop-again
-    add-t23
-    same-length-2
-    returns-2)
+    add-t20
+    same-length
+    returns)

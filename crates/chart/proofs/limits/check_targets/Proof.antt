@@ -7,8 +7,8 @@ use Rattle.answers.specs.Stages.{each, each-none}
 use Rattle.answers.specs.Loops.{each-passed, each-refused, each-ended}
 use Rattle.model.specs.Chart.{actionsOf}
 use Rattle.chart.specs.Check.{targetCheck}
-use Rattle.chart.proofs.targets.check_record.Statement.{statement}
-use Rattle.chart.proofs.targets.check_record.Tie as tie
+use Rattle.chart.proofs.limits.check_targets.Statement.{statement}
+use Rattle.chart.proofs.limits.check_targets.Tie as tie
 
 abbrev Inv-loop : tie.InvT-loop
 Inv-loop c i a₀ a-end a = (a ≤ a-end) × (each (targetCheck c i) a ≡ Fine)
@@ -52,8 +52,8 @@ returns-2 c =
     let s = c .before .before .before .before .args in
     each-ended (targetCheck (s .c .now) (s .i)) (c .before .loop .a) (actionsOf (s .c .now)) (c .before .loop .inv .1) (omega arith) (omega arith)
 
-pub check-record-spec : {M : Type 1} → statement M
-check-record-spec =
+pub check-targets-spec : {M : Type 1} → statement M
+check-targets-spec =
     tie.close
     (tie.spec
     Inv-loop

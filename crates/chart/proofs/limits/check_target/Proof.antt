@@ -1,7 +1,7 @@
 use Rattle.chart.specs.Records.{target-barred, target-block, target-wrong}
 use borrow.Author.Needs.{needs}
-use Rattle.chart.proofs.targets.check_target.Statement.{statement}
-use Rattle.chart.proofs.targets.check_target.Tie as tie
+use Rattle.chart.proofs.limits.check_target.Statement.{statement}
+use Rattle.chart.proofs.limits.check_target.Tie as tie
 
 target-of-requires : tie.Need-target-of-requires
 target-of-requires c κs = search needs

@@ -1,17 +1,20 @@
-// Refusal 4: targets that are neither a block's number nor 255.
+// The values that the fields of a chart may have: refusal 4.
 ghost use mathlib.Core.Path.{_≡_};
 ghost use Prim.Native.Nat.{_<_};
 ghost use Rattle.answers.specs.Stages.{each};
 ghost use Rattle.model.specs.Chart.{actionsOf, blocksOf};
 ghost use Rattle.chart_bytes.specs.Shape.{Shaped};
-ghost use Rattle.chart.specs.Check.{targetCheck, targetsCheck};
+ghost use Rattle.chart.specs.Check.{targetCheck, fieldsCheck, limitsCheck};
 use answers::Checked;
+use answers::demanded;
 use chart_bytes::fields::actions_of;
 use chart_bytes::fields::blocks_of;
+use chart_bytes::fields::label_of;
+use chart_bytes::fields::record_at;
 use chart_bytes::fields::target_at;
 use chart_bytes::fields::target_of;
 
-// One target.
+// One target: a block's number, or 255.
 fn check_target(c: &[u8], i: usize, a: usize) -> Checked
     requires { ⌜ Shaped (now c) ⌝ }
     requires { ⌜ (i < blocksOf (now c)) × (a < actionsOf (now c)) ⌝ }
@@ -31,7 +34,7 @@ fn check_target(c: &[u8], i: usize, a: usize) -> Checked
 }
 
 // The targets of one record.
-fn check_record(c: &[u8], i: usize) -> Checked
+fn check_targets(c: &[u8], i: usize) -> Checked
     requires { ⌜ Shaped (now c) ⌝ }
     requires { ⌜ i < blocksOf (now c) ⌝ }
     ensures { λ r. ⌜ r ≡ each (targetCheck (now (c .entry)) i) (actionsOf (now (c .entry))) ⌝ }
@@ -45,10 +48,23 @@ fn check_record(c: &[u8], i: usize) -> Checked
     Checked::Fine
 }
 
-// All targets, in file order.
-pub(crate) fn check_targets(c: &[u8]) -> Checked
+// One record: its label is not what a run writes for a barred action, then the targets.
+fn check_record(c: &[u8], i: usize) -> Checked
     requires { ⌜ Shaped (now c) ⌝ }
-    ensures { λ r. ⌜ r ≡ targetsCheck (now (c .entry)) ⌝ }
+    requires { ⌜ i < blocksOf (now c) ⌝ }
+    ensures { λ r. ⌜ r ≡ fieldsCheck (now (c .entry)) i ⌝ }
+{
+    let label = demanded(label_of(c, i) < 65535, 4, record_at(c, i));
+    let Checked::Fine = label else {
+        return label;
+    };
+    check_targets(c, i)
+}
+
+// 4: the first field with a value that is not allowed.
+pub(crate) fn check_limits(c: &[u8]) -> Checked
+    requires { ⌜ Shaped (now c) ⌝ }
+    ensures { λ r. ⌜ r ≡ limitsCheck (now (c .entry)) ⌝ }
 {
     for i in 0..blocks_of(c) {
         let one = check_record(c, i);
