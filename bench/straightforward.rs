@@ -59,10 +59,42 @@ struct Configuration {
 }
 
 struct Sheet {
+    version: Version,
     counters: usize,
     actions: usize,
     start: Configuration,
     regions: Vec<Region>,
+}
+
+/// What a version of the sheet sets: the bytes of a bound or start value, the greatest of them, and the greatest offset.
+#[derive(Clone, Copy)]
+struct Version {
+    size: usize,
+    greatest: i32,
+    greatest_offset: i32,
+}
+
+const NARROW: Version = Version { size: 2, greatest: 32_768, greatest_offset: 4_000_000 };
+const WIDE: Version = Version { size: 4, greatest: 1_000_000, greatest_offset: 200_000_000 };
+
+impl Version {
+    /// The bound or start value at a place; refusal 4.
+    fn bound(self, bytes: &[u8], at: usize) -> Result<i32, Refusal> {
+        let value = match self.size {
+            2 => i32::from(i16::from_le_bytes([bytes[at], bytes[at + 1]])),
+            _ => signed32(bytes, at),
+        };
+        if (-self.greatest..=self.greatest).contains(&value) {
+            Ok(value)
+        } else {
+            refuse(4, at)
+        }
+    }
+
+    /// Bytes of a region record before its moves.
+    fn head(self, counters: usize) -> usize {
+        3 + 2 * self.size * counters
+    }
 }
 
 fn divide_down(n: i32, by: i32) -> i32 {
@@ -118,19 +150,19 @@ fn volume(ranges: &Ranges) -> i64 {
     ranges.iter().map(|r| r.size()).product()
 }
 
-fn signed16(bytes: &[u8], at: usize) -> i32 {
-    i32::from(i16::from_le_bytes([bytes[at], bytes[at + 1]]))
+fn signed32(bytes: &[u8], at: usize) -> i32 {
+    i32::from_le_bytes([bytes[at], bytes[at + 1], bytes[at + 2], bytes[at + 3]])
 }
 
-fn read_rule(bytes: &[u8], at: usize, counters: usize) -> Result<Rule, Refusal> {
+fn read_rule(bytes: &[u8], at: usize, counters: usize, greatest: i32) -> Result<Rule, Refusal> {
     let (kind, source, factor) = (bytes[at], bytes[at + 1] as usize, i32::from(bytes[at + 2] as i8));
-    let offset = i32::from_le_bytes([bytes[at + 3], bytes[at + 4], bytes[at + 5], bytes[at + 6]]);
+    let offset = signed32(bytes, at + 3);
     let wrong = match kind {
         0 if source != 0 => Some(1),
         0 if factor != 0 => Some(2),
         1 if source >= counters => Some(1),
         1 if factor == 0 || !(-100..=100).contains(&factor) => Some(2),
-        0 | 1 if !(-4_000_000..=4_000_000).contains(&offset) => Some(3),
+        0 | 1 if !(-greatest..=greatest).contains(&offset) => Some(3),
         0 | 1 => None,
         _ => Some(0),
     };
@@ -141,7 +173,7 @@ fn read_rule(bytes: &[u8], at: usize, counters: usize) -> Result<Rule, Refusal> 
     }
 }
 
-fn read_move(bytes: &[u8], at: usize, counters: usize) -> Result<Option<Move>, Refusal> {
+fn read_move(bytes: &[u8], at: usize, counters: usize, greatest: i32) -> Result<Option<Move>, Refusal> {
     match bytes[at] {
         0 => match bytes[at + 1..at + 2 + 7 * counters].iter().position(|b| *b != 0) {
             None => Ok(None),
@@ -152,7 +184,7 @@ fn read_move(bytes: &[u8], at: usize, counters: usize) -> Result<Option<Move>, R
         1 => {
             let mut rules = [Rule::Set(0); 3];
             for (v, rule) in rules[..counters].iter_mut().enumerate() {
-                *rule = read_rule(bytes, at + 2 + 7 * v, counters)?;
+                *rule = read_rule(bytes, at + 2 + 7 * v, counters, greatest)?;
             }
             Ok(Some(Move { target: bytes[at + 1], rules }))
         }
@@ -160,46 +192,52 @@ fn read_move(bytes: &[u8], at: usize, counters: usize) -> Result<Option<Move>, R
     }
 }
 
-fn read_region(bytes: &[u8], at: usize, counters: usize, actions: usize) -> Result<Region, Refusal> {
+fn read_region(bytes: &[u8], at: usize, version: Version, counters: usize, actions: usize) -> Result<Region, Refusal> {
     let label = u16::from_le_bytes([bytes[at], bytes[at + 1]]);
     if label == 65535 {
         return refuse(4, at);
     }
     let mut ranges = [ZERO; 3];
     for (v, range) in ranges[..counters].iter_mut().enumerate() {
-        let place = at + 3 + 4 * v;
-        *range = Range { low: signed16(bytes, place), high: signed16(bytes, place + 2) };
+        let place = at + 3 + 2 * version.size * v;
+        *range = Range { low: version.bound(bytes, place)?, high: version.bound(bytes, place + version.size)? };
         if range.low > range.high {
-            return refuse(4, place + 2);
+            return refuse(4, place + version.size);
         }
     }
-    let first = at + 3 + 4 * counters;
-    let moves = (0..actions).map(|a| read_move(bytes, first + a * (2 + 7 * counters), counters)).collect::<Result<_, _>>()?;
+    let first = at + version.head(counters);
+    let at_move = |a: usize| read_move(bytes, first + a * (2 + 7 * counters), counters, version.greatest_offset);
+    let moves = (0..actions).map(at_move).collect::<Result<_, _>>()?;
     Ok(Region { label, state: bytes[at + 2], ranges, moves })
 }
 
 /// The sheet, and the size of a region record; refusals 1 to 4.
 fn read(bytes: &[u8]) -> Result<(Sheet, usize), Refusal> {
-    if bytes.len() < 9 || !bytes.starts_with(b"MSH\x01\x00") {
-        return refuse(1, 0);
-    }
+    let version = match bytes {
+        [b'M', b'S', b'H', 1, 0, _, _, _, _, ..] => NARROW,
+        [b'M', b'S', b'H', 2, 0, _, _, _, _, ..] => WIDE,
+        _ => return refuse(1, 0),
+    };
     if let Some(k) = [3, 8, 32].iter().zip(&bytes[5..8]).position(|(most, n)| n < &1 || n > most) {
         return refuse(2, 5 + k);
     }
     let (counters, actions, count) = (bytes[5] as usize, bytes[6] as usize, bytes[7] as usize);
-    let (first, size) = (9 + 2 * counters, 3 + 4 * counters + actions * (2 + 7 * counters));
+    let (first, size) = (9 + version.size * counters, version.head(counters) + actions * (2 + 7 * counters));
     if bytes.len() != first + count * size {
         return refuse(3, bytes.len());
     }
     let mut values = [0; 3];
-    (0..counters).for_each(|v| values[v] = signed16(bytes, 9 + 2 * v));
-    let regions = (0..count).map(|i| read_region(bytes, first + i * size, counters, actions)).collect::<Result<_, _>>()?;
-    Ok((Sheet { counters, actions, start: Configuration { state: bytes[8], values }, regions }, size))
+    for (v, value) in values[..counters].iter_mut().enumerate() {
+        *value = version.bound(bytes, 9 + version.size * v)?;
+    }
+    let at_region = |i: usize| read_region(bytes, first + i * size, version, counters, actions);
+    let regions = (0..count).map(at_region).collect::<Result<_, _>>()?;
+    Ok((Sheet { version, counters, actions, start: Configuration { state: bytes[8], values }, regions }, size))
 }
 
 /// Refusals 5 to 8. Regions are disjoint, so all configurations of a region land just if the volumes of the preimages add up to its own.
 fn check(sheet: &Sheet, size: usize) -> Result<(), Refusal> {
-    let (regions, place) = (&sheet.regions, |i: usize| 9 + 2 * sheet.counters + i * size);
+    let (regions, place) = (&sheet.regions, |i: usize| 9 + sheet.version.size * sheet.counters + i * size);
     if let Some(j) = (0..regions.len()).find(|j| regions[..*j].iter().any(|r| r.label == regions[*j].label)) {
         return refuse(5, place(j));
     }
@@ -216,7 +254,7 @@ fn check(sheet: &Sheet, size: usize) -> Result<(), Refusal> {
             let targets = regions.iter().filter(|r| r.state == m.target);
             let landed: i64 = targets.map(|r| volume(&m.preimage(&r.ranges, region.ranges))).sum();
             if landed != volume(&region.ranges) {
-                return refuse(8, place(i) + 3 + 4 * sheet.counters + a * (2 + 7 * sheet.counters));
+                return refuse(8, place(i) + sheet.version.head(sheet.counters) + a * (2 + 7 * sheet.counters));
             }
         }
     }
@@ -470,7 +508,8 @@ fn number(rows: &[Row], actions: usize) -> (Vec<usize>, Vec<u8>) {
 fn write(sheet: &Sheet, rows: &[Row], chart: &mut [u8], list: &mut [u8]) {
     let (order, numbers) = number(rows, sheet.actions);
     chart[..7].copy_from_slice(&[b'B', b'C', b'H', 1, 0, sheet.actions as u8, rows.len() as u8]);
-    let records = chart[7..].chunks_mut(2 + sheet.actions).zip(list.chunks_mut(1 + 4 * sheet.counters));
+    let size = sheet.version.size;
+    let records = chart[7..].chunks_mut(2 + sheet.actions).zip(list.chunks_mut(1 + 2 * size * sheet.counters));
     for (i, (record, entry)) in order.iter().zip(records) {
         let row = &rows[*i];
         record[..2].copy_from_slice(&sheet.regions[row.region].label.to_le_bytes());
@@ -478,17 +517,16 @@ fn write(sheet: &Sheet, rows: &[Row], chart: &mut [u8], list: &mut [u8]) {
             *byte = if *j == NO_ROW { 255 } else { numbers[*j as usize] };
         }
         entry[0] = row.at.state;
-        for (bytes, range) in entry[1..].chunks_mut(4).zip(&row.ranges) {
-            bytes[..2].copy_from_slice(&(range.low as i16).to_le_bytes());
-            bytes[2..].copy_from_slice(&(range.high as i16).to_le_bytes());
+        for (bytes, range) in entry[1..].chunks_mut(2 * size).zip(&row.ranges) {
+            bytes[..size].copy_from_slice(&range.low.to_le_bytes()[..size]);
+            bytes[size..].copy_from_slice(&range.high.to_le_bytes()[..size]);
         }
     }
 }
 
 fn answer(sheet: &Sheet, rows: &[Row], chart: &mut [u8], list: &mut [u8]) -> Result<usize, Refusal> {
-    for (needed, room) in
-        [(7 + rows.len() * (2 + sheet.actions), chart.len()), (rows.len() * (1 + 4 * sheet.counters), list.len())]
-    {
+    let record = 1 + 2 * sheet.version.size * sheet.counters;
+    for (needed, room) in [(7 + rows.len() * (2 + sheet.actions), chart.len()), (rows.len() * record, list.len())] {
         if room < needed {
             return refuse(10, needed);
         }

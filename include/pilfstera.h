@@ -8,13 +8,18 @@
    allocate nothing and keep nothing from call to call, so threads may call them at once; making a chart takes less than 64 KiB of
    stack.
 
+   A sheet has version 1 or 2, which is its byte 3. Version 1 has bounds and start values of 16 bits, and offsets from -4,000,000 to
+   4,000,000; version 2 has bounds and start values of 32 bits, from -1,000,000 to 1,000,000, and offsets from -200,000,000 to
+   200,000,000. The bounds of a box list have as many bits as those of its sheet. A chart has no bounds: sheets that behave alike give
+   the same chart, whatever their versions.
+
    Refusal  Of                 Why                                                          `*returned`
      1      sheet, chart       shorter than its header, or wrong mark or version            0
      2      sheet, chart       a count outside its limits                                   place of the first
      3      sheet, chart, run  length differs from what the counts give; a sequence
                                above 4,096 actions                                          actual length
      4      sheet, chart       a field with a value that is not allowed, such as the
-                               label 65,535                                                 its place; of high, where low is above it
+                               label 65,535, or a bound beyond its limits                   its place; of high, where low is above it
      5      sheet              a label repeated                                             place of the later label
      6      sheet              two regions that share a configuration                       place of the later region
      7      sheet              the start is in no region                                    8, place of the start state
@@ -34,18 +39,25 @@
 #include <stddef.h>
 #include <stdint.h>
 
-/* Longest sheet, chart and box list in bytes, and longest sequence of actions. Every chart and box list fits into buffers of these
-   lengths. A reader of sheets may stop one byte past the longest: whatever is longer is refused. */
-enum { PILFSTERA_SHEET = 6383, PILFSTERA_CHART = 2557, PILFSTERA_LIST = 3315, PILFSTERA_ACTIONS = 4096 };
+/* Longest sheet, chart and box list in bytes, of either version, and longest sequence of actions. Every chart and box list fits into
+   buffers of these lengths. A reader of sheets may stop one byte past the longest: whatever is longer is refused. */
+enum { PILFSTERA_SHEET = 6773, PILFSTERA_CHART = 2557, PILFSTERA_LIST = 6375, PILFSTERA_ACTIONS = 4096 };
+
+/* Longest sheet and box list of version 1, for callers that meet no other. */
+enum { PILFSTERA_VERSION_1_SHEET = 6383, PILFSTERA_VERSION_1_LIST = 3315 };
 
 /* Most blocks of a chart, and most actions, counters and regions of a sheet. Blocks and actions are numbered from 0; 255 in the place
    of a chart's target says that the action is barred. */
 enum { PILFSTERA_MOST_BLOCKS = 255, PILFSTERA_MOST_ACTIONS = 8, PILFSTERA_MOST_COUNTERS = 3, PILFSTERA_MOST_REGIONS = 32 };
 
-/* Bytes of a chart and of a box list. Byte 5 of a chart is its number of actions; bytes 5 and 6 of a sheet are its numbers of counters
-   and of actions. */
+/* Bytes of a bound, in a sheet of a version and in its box list: 2 for version 1, 4 for version 2. */
+#define PILFSTERA_BOUND_SIZE(version) ((version) == 1 ? (size_t)2 : (size_t)4)
+
+/* Bytes of a chart and of a box list. Byte 5 of a chart is its number of actions; bytes 3, 5 and 6 of an accepted sheet are its version
+   and its numbers of counters and of actions. */
 #define PILFSTERA_CHART_LENGTH(blocks, actions) (7 + (size_t)(blocks) * (2 + (size_t)(actions)))
-#define PILFSTERA_LIST_LENGTH(blocks, counters) ((size_t)(blocks) * (1 + 4 * (size_t)(counters)))
+#define PILFSTERA_LIST_LENGTH(version, blocks, counters) \
+    ((size_t)(blocks) * (1 + 2 * PILFSTERA_BOUND_SIZE(version) * (size_t)(counters)))
 
 /* Entries that a run writes: one for the start, and one for each action. */
 #define PILFSTERA_RUN_ROOM(actions) ((size_t)(actions) + 1)
@@ -60,8 +72,9 @@ extern "C" {
 /* Checks a sheet: refusals 1 to 8. `returned` is 0 where it is accepted. */
 uint8_t pilfstera_check_sheet(const uint8_t *sheet, size_t length, size_t *returned);
 
-/* Makes a sheet's chart and box list: refusals 1 to 10. `returned` is the number of blocks N. For A actions and V counters the chart
-   takes 7 + N * (2 + A) bytes and the list N * (1 + 4 * V), from the front of each buffer; what lies behind is left as it was. */
+/* Makes a sheet's chart and box list: refusals 1 to 10. `returned` is the number of blocks N. For A actions and V counters, and bounds of
+   w bytes (2 or 4, by the version), the chart takes 7 + N * (2 + A) bytes and the list N * (1 + 2 * w * V), from the front of each buffer;
+   what lies behind is left as it was. */
 uint8_t pilfstera_make(const uint8_t *sheet, size_t length, uint8_t *chart, size_t chart_room, uint8_t *list,
                        size_t list_room, size_t *returned);
 

@@ -28,15 +28,21 @@ mod library {
     use std::error::Error;
     use std::fmt;
 
-    /// Bytes of the longest sheet, that of 32 regions, 8 actions and 3 counters. A reader of sheets may stop one byte past it: whatever is
-    /// longer is refused.
-    pub const LONGEST_SHEET: usize = 6383;
+    /// Bytes of the longest sheet of either version, that of 32 regions, 8 actions and 3 counters. A reader of sheets may stop one byte past
+    /// it: whatever is longer is refused.
+    pub const LONGEST_SHEET: usize = 6773;
 
     /// Bytes of the longest chart: a buffer of this length suffices for every sheet.
     pub const LONGEST_CHART: usize = 2557;
 
-    /// Bytes of the longest box list: a buffer of this length suffices for every sheet.
-    pub const LONGEST_LIST: usize = 3315;
+    /// Bytes of the longest box list of either version: a buffer of this length suffices for every sheet.
+    pub const LONGEST_LIST: usize = 6375;
+
+    /// Bytes of the longest sheet of version 1, for callers that meet no other.
+    pub const VERSION_1_LONGEST_SHEET: usize = 6383;
+
+    /// Bytes of the longest box list of a version 1 sheet.
+    pub const VERSION_1_LONGEST_LIST: usize = 3315;
 
     /// Actions in the longest sequence that a run takes.
     pub const LONGEST_SEQUENCE: usize = 4096;
@@ -58,9 +64,19 @@ mod library {
         7 + blocks * (2 + actions)
     }
 
-    /// Bytes of a box list. The number of counters is byte 5 of the sheet.
-    pub const fn list_length(blocks: usize, counters: usize) -> usize {
-        blocks * (1 + 4 * counters)
+    /// Bytes of a bound, in a sheet of a version and in its box list: 2 for version 1, 4 for version 2. The version is byte 3 of an accepted
+    /// sheet.
+    pub const fn bound_size(version: u8) -> usize {
+        if version == 1 {
+            2
+        } else {
+            4
+        }
+    }
+
+    /// Bytes of a box list. Version and number of counters are bytes 3 and 5 of the sheet.
+    pub const fn list_length(version: u8, blocks: usize, counters: usize) -> usize {
+        blocks * (1 + 2 * bound_size(version) * counters)
     }
 
     /// What a run writes in the place of a label for an action that is barred. No label is this number: as one it is refused 4.
@@ -204,7 +220,8 @@ mod library {
 
     /// Makes a sheet's chart and box list, and gives the number of blocks; refusals 1 to 10. Both are written from the front of their
     /// buffers, in [`chart_length`] and [`list_length`] bytes, and what lies behind is left as it was. Where both buffers are too short
-    /// the chart's length is told.
+    /// the chart's length is told. The list has bounds of [`bound_size`] bytes; the chart has none, so that sheets that behave alike give
+    /// the same chart, whatever their versions.
     pub fn make(sheet: &[u8], chart: &mut [u8], list: &mut [u8]) -> Result<usize, Refusal> {
         let mut returned = 0;
         // SAFETY: three slices by pointer and length, and a number of our own to write. What is written is borrowed apart from all else,

@@ -4,13 +4,16 @@
 
 int main(void) {
     uint8_t chart[PILFSTERA_CHART_LENGTH(PILFSTERA_MOST_BLOCKS, PILFSTERA_MOST_ACTIONS)];
-    uint8_t list[PILFSTERA_LIST_LENGTH(PILFSTERA_MOST_BLOCKS, PILFSTERA_MOST_COUNTERS)];
+    uint8_t narrow[PILFSTERA_LIST_LENGTH(1, PILFSTERA_MOST_BLOCKS, PILFSTERA_MOST_COUNTERS)];
+    uint8_t wide[PILFSTERA_LIST_LENGTH(2, PILFSTERA_MOST_BLOCKS, PILFSTERA_MOST_COUNTERS)];
     uint16_t entries[PILFSTERA_RUN_ROOM(PILFSTERA_ACTIONS)];
     uint8_t sheet[1] = {0};
     size_t returned = 1;
     printf("%d %d %d %d\n", PILFSTERA_SHEET, PILFSTERA_CHART, PILFSTERA_LIST, PILFSTERA_ACTIONS);
+    printf("%d %d\n", PILFSTERA_VERSION_1_SHEET, PILFSTERA_VERSION_1_LIST);
     printf("%d %d %d %d\n", PILFSTERA_MOST_BLOCKS, PILFSTERA_MOST_ACTIONS, PILFSTERA_MOST_COUNTERS, PILFSTERA_MOST_REGIONS);
-    printf("%zu %zu %zu\n", sizeof chart, sizeof list, sizeof entries / sizeof entries[0]);
+    printf("%zu %zu %zu %zu\n", sizeof chart, sizeof narrow, sizeof wide, sizeof entries / sizeof entries[0]);
+    printf("%zu %zu\n", PILFSTERA_BOUND_SIZE(1), PILFSTERA_BOUND_SIZE(2));
     printf("%d\n", PILFSTERA_SKIPPED);
     unsigned refused = pilfstera_check_sheet(sheet, 0, &returned);
     printf("refused %u at %zu\n", refused, returned);

@@ -8,11 +8,14 @@ use pilfstera::*;
 
 fn main() {
     let chart = [0u8; chart_length(MOST_BLOCKS, MOST_ACTIONS)];
-    let list = [0u8; list_length(MOST_BLOCKS, MOST_COUNTERS)];
+    let narrow = [0u8; list_length(1, MOST_BLOCKS, MOST_COUNTERS)];
+    let wide = [0u8; list_length(2, MOST_BLOCKS, MOST_COUNTERS)];
     let entries = [SKIPPED; run_room(LONGEST_SEQUENCE)];
     println!("{LONGEST_SHEET} {LONGEST_CHART} {LONGEST_LIST} {LONGEST_SEQUENCE}");
+    println!("{VERSION_1_LONGEST_SHEET} {VERSION_1_LONGEST_LIST}");
     println!("{MOST_BLOCKS} {MOST_ACTIONS} {MOST_COUNTERS} {MOST_REGIONS}");
-    println!("{} {} {}", chart.len(), list.len(), entries.len());
+    println!("{} {} {} {}", chart.len(), narrow.len(), wide.len(), entries.len());
+    println!("{} {}", bound_size(1), bound_size(2));
     println!("{}", entries[0]);
     if let Err(Refusal { number, returned }) = check_sheet(&[]) {
         println!("refused {number} at {returned}");

@@ -1,10 +1,11 @@
-//! Random sheets and charts: mostly accepted ones, ones that are to be refused with a given number, and damaged ones.
+//! Random sheets of both versions, and charts: mostly accepted ones, ones that are to be refused with a given number, and damaged ones.
 
 use crate::random::Random;
-use crate::sheets::{Move, Region, Rule, Sheet};
+use crate::sheets::{bound_size, limits, Move, Region, Rule, Sheet};
 
-fn put16(out: &mut Vec<u8>, value: i64) {
-    out.extend((value as u16).to_le_bytes());
+/// A number in so many bytes.
+fn put(out: &mut Vec<u8>, value: i64, size: usize) {
+    out.extend(&value.to_le_bytes()[..size]);
 }
 
 fn put_move(out: &mut Vec<u8>, counters: usize, m: &Option<Move>) {
@@ -19,24 +20,46 @@ fn put_move(out: &mut Vec<u8>, counters: usize, m: &Option<Move>) {
             Rule::Carry { source, factor, offset } => ([1, *source as u8, *factor as u8], offset),
         };
         out.extend(head);
-        out.extend((*offset as u32).to_le_bytes());
+        put(out, *offset, 4);
     }
 }
 
 pub fn encode(sheet: &Sheet) -> Vec<u8> {
-    let mut out = b"MSH\x01\x00".to_vec();
-    out.extend([sheet.counters as u8, sheet.actions as u8, sheet.regions.len() as u8, sheet.start.0]);
-    sheet.start.1.iter().for_each(|v| put16(&mut out, *v));
+    let (mut out, size) = (b"MSH".to_vec(), bound_size(sheet.version));
+    out.extend([sheet.version, 0, sheet.counters as u8, sheet.actions as u8, sheet.regions.len() as u8, sheet.start.0]);
+    sheet.start.1.iter().for_each(|v| put(&mut out, *v, size));
     for region in &sheet.regions {
-        put16(&mut out, i64::from(region.label));
+        put(&mut out, i64::from(region.label), 2);
         out.push(region.state);
         for (low, high) in &region.bounds {
-            put16(&mut out, *low);
-            put16(&mut out, *high);
+            put(&mut out, *low, size);
+            put(&mut out, *high, size);
         }
         region.moves.iter().for_each(|(_, m)| put_move(&mut out, sheet.counters, m));
     }
     out
+}
+
+/// Where the fields of a sheet stand, by its version and counts.
+pub struct Form {
+    /// Bytes of a bound or start value, of a move record and of a region record.
+    pub bound: usize,
+    pub move_size: usize,
+    pub region: usize,
+    /// The place of the first region, and how far behind its own place a region has its moves.
+    pub first: usize,
+    pub moves: usize,
+}
+
+pub fn form(version: u8, counters: usize, actions: usize) -> Form {
+    let (bound, move_size) = (bound_size(version), 2 + 7 * counters);
+    let moves = 3 + 2 * bound * counters;
+    Form { bound, move_size, region: moves + actions * move_size, first: 9 + bound * counters, moves }
+}
+
+/// The form of a sheet that passed refusals 1 to 3.
+pub fn form_of(bytes: &[u8]) -> Form {
+    form(bytes[3], bytes[5] as usize, bytes[6] as usize)
 }
 
 /// A region; its place and those of its moves are the encoding's.
@@ -45,17 +68,26 @@ pub fn region(label: u16, state: u8, bounds: Vec<(i64, i64)>, moves: Vec<Option<
 }
 
 /// A sheet of one counter, one action and one state: regions of low, high and the carry rule, if any.
-pub fn one_counter(start: i64, regions: &[(i64, i64, Option<(i64, i64)>)]) -> Vec<u8> {
+pub fn one_counter(version: u8, start: i64, regions: &[(i64, i64, Option<(i64, i64)>)]) -> Vec<u8> {
     let carry = |(factor, offset)| Move { target: 0, rules: vec![Rule::Carry { source: 0, factor, offset }] };
     let numbered = regions.iter().zip(1..);
     let regions = numbered.map(|((low, high, m), i)| region(10 * i, 0, vec![(*low, *high)], vec![m.map(carry)])).collect();
-    encode(&Sheet { counters: 1, actions: 1, start: (0, vec![start]), regions })
+    encode(&Sheet { version, counters: 1, actions: 1, start: (0, vec![start]), regions })
 }
 
 type Bounds = Vec<(i64, i64)>;
 
-/// The box of a control state.
-fn area(rng: &mut Random, counters: usize) -> Bounds {
+/// The lowest and the highest value of a counter.
+pub const fn range(version: u8) -> (i64, i64) {
+    match version {
+        1 => (-32_768, 32_767),
+        _ => (-1_000_000, 1_000_000),
+    }
+}
+
+/// The box of a control state. Version 1 has it near 0 or at an end of the range, version 2 anywhere, and at an end more often.
+fn area(rng: &mut Random, version: u8, counters: usize) -> Bounds {
+    let (first, last) = range(version);
     let widest = match counters {
         1 => rng.pick(&[30, 30, 30, 300]),
         2 => 8,
@@ -63,15 +95,16 @@ fn area(rng: &mut Random, counters: usize) -> Bounds {
     };
     let side = |_| {
         let width = rng.between(0, widest);
-        match rng.below(20) {
-            0 if counters == 1 && rng.one_in(20) => (-32768, 32767),
-            0 => (-32768, width - 32768),
-            1 => (32767 - width, 32767),
-            _ => {
-                let low = rng.between(-12, 12);
-                (low, low + width)
-            }
-        }
+        let low = match rng.below(if version == 1 { 20 } else { 8 }) {
+            0 if counters == 1 && rng.one_in(20) => return if version == 1 { (first, last) } else { (-50_000, 50_000) },
+            0 => first,
+            1 => last - width,
+            _ if version == 1 => rng.between(-12, 12),
+            2 => rng.between(-32_790, -32_760),
+            3 => rng.between(32_740, 32_790),
+            _ => rng.between(first, last - width),
+        };
+        (low, low + width)
     };
     (0..counters).map(side).collect()
 }
@@ -133,12 +166,12 @@ fn fresh_label(rng: &mut Random, regions: &[Region]) -> u16 {
 }
 
 /// A sheet whose control states have a box each, cut into regions. Most are accepted.
-pub fn sheet(rng: &mut Random) -> Sheet {
+pub fn sheet(rng: &mut Random, version: u8) -> Sheet {
     let counters = rng.pick(&[1, 1, 1, 2, 2, 3]);
     let actions = 1 + if rng.one_in(12) { rng.below(8) } else { rng.below(3) };
     let (first, most) = (rng.byte(), rng.pick(&[4, 4, 4, 10, 32]));
     let count = 1 + if most < 32 { rng.below(3) as u8 } else { 0 };
-    let areas: Vec<(u8, Bounds)> = (0..count).map(|i| (first.wrapping_add(i * 37), area(rng, counters))).collect();
+    let areas: Vec<(u8, Bounds)> = (0..count).map(|i| (first.wrapping_add(i * 37), area(rng, version, counters))).collect();
     let (loose, holed) = (rng.one_in(4), rng.one_in(15));
     let mut regions = Vec::new();
     for (state, whole) in &areas {
@@ -153,7 +186,7 @@ pub fn sheet(rng: &mut Random) -> Sheet {
     }
     let home = &regions[rng.below(regions.len())];
     let start = (home.state, home.bounds.iter().map(|(low, high)| rng.between(*low, *high)).collect());
-    Sheet { counters, actions, start, regions }
+    Sheet { version, counters, actions, start, regions }
 }
 
 /// A grid of one or two counters, where action v takes counter v to its end one by one: about 255 blocks.
@@ -174,7 +207,7 @@ pub fn grid(rng: &mut Random) -> Sheet {
         regions.push(region(500 + mask, 7, (0..counters).map(side).collect(), moves));
     }
     let start = (7, (0..counters).map(|_| sign * rng.between(0, 1)).collect());
-    Sheet { counters, actions: counters, start, regions }
+    Sheet { version: 1, counters, actions: counters, start, regions }
 }
 
 /// One byte changed, some cut off, left out or put in.
@@ -198,20 +231,45 @@ pub fn damaged(rng: &mut Random, bytes: &[u8]) -> Vec<u8> {
 
 /// Where a random rule of a random move of a random region stands: the places of region, move and rule.
 fn places(rng: &mut Random, bytes: &[u8]) -> (usize, usize, usize) {
-    let (counters, actions, regions) = (bytes[5] as usize, bytes[6] as usize, bytes[7] as usize);
-    let move_size = 2 + 7 * counters;
-    let at = 9 + 2 * counters + rng.below(regions) * (3 + 4 * counters + actions * move_size);
-    let move_at = at + 3 + 4 * counters + rng.below(actions) * move_size;
+    let (form, counters, actions, regions) = (form_of(bytes), bytes[5] as usize, bytes[6] as usize, bytes[7] as usize);
+    let at = form.first + rng.below(regions) * form.region;
+    let move_at = at + form.moves + rng.below(actions) * form.move_size;
     (at, move_at, move_at + 2 + 7 * rng.below(counters))
+}
+
+/// Puts a number of 32 bits at a place.
+pub fn put32(bytes: &mut [u8], at: usize, value: i64) {
+    bytes[at..at + 4].copy_from_slice(&(value as i32).to_le_bytes());
+}
+
+/// Low 5 above high 4 in a region's first range; the place of high.
+pub fn cross(bytes: &mut [u8], region_at: usize) -> usize {
+    let (low, high) = (region_at + 3, region_at + 3 + form_of(bytes).bound);
+    bytes[low..2 * high - low].fill(0);
+    (bytes[low], bytes[high]) = (5, 4);
+    high
+}
+
+/// A start value or a bound of version 2 at its limit or beyond, in the region at a place.
+fn spoil_bound(rng: &mut Random, bytes: &mut [u8], region_at: usize) {
+    let counters = bytes[5] as usize;
+    let place = match rng.below(3) {
+        0 => 9 + 4 * rng.below(counters),
+        _ => region_at + 3 + 4 * rng.below(2 * counters),
+    };
+    let near = rng.pick(&[1_000_000, 1_000_001, 1_000_002, i64::from(i32::MAX)]);
+    put32(bytes, place, if rng.one_in(2) { near } else { -near });
 }
 
 /// A field with a value that is not allowed, of whatever kind the place has.
 fn spoil_field(rng: &mut Random, bytes: &mut [u8]) {
     let (at, move_at, rule_at) = places(rng, bytes);
-    if rng.one_in(8) {
+    if bytes[3] == 2 && rng.one_in(3) {
+        spoil_bound(rng, bytes, at);
+    } else if rng.one_in(8) {
         bytes[at..at + 2].fill(255);
     } else if rng.one_in(4) {
-        bytes[at + 3..at + 7].copy_from_slice(&[5, 0, 4, 0]);
+        cross(bytes, at);
     } else if rng.one_in(4) {
         bytes[move_at] = rng.pick(&[2, 3, 255]);
     } else if rng.one_in(3) {
@@ -223,16 +281,16 @@ fn spoil_field(rng: &mut Random, bytes: &mut [u8]) {
     } else if rng.one_in(2) {
         bytes[rule_at + 2] = if bytes[rule_at] == 0 { 1 } else { rng.pick(&[0, 101, 155, 128]) };
     } else {
-        let beyond = rng.pick(&[4_000_001i32, -4_000_001, i32::MIN, i32::MAX]);
-        bytes[rule_at + 3..rule_at + 7].copy_from_slice(&beyond.to_le_bytes());
+        let beyond = limits(bytes[3]).1 + 1;
+        put32(bytes, rule_at + 3, rng.pick(&[beyond, -beyond, i64::from(i32::MIN), i64::from(i32::MAX)]));
     }
 }
 
 /// An accepted sheet's bytes, changed so that a refusal with the number is likely.
 pub fn refused(rng: &mut Random, accepted: &[u8], number: u8) -> Vec<u8> {
     let mut out = accepted.to_vec();
-    let (first, (later, _, rule_at)) = (9 + 2 * out[5] as usize, places(rng, &out));
-    let box_size = 1 + 4 * out[5] as usize;
+    let (form, (later, _, rule_at)) = (form_of(&out), places(rng, &out));
+    let (first, box_size) = (form.first, form.moves - 2);
     match number {
         1 if rng.one_in(2) => out.truncate(rng.below(9)),
         1 => out[rng.below(5)] ^= 1 << rng.below(8),
@@ -243,6 +301,7 @@ pub fn refused(rng: &mut Random, accepted: &[u8], number: u8) -> Vec<u8> {
         5 => out.copy_within(first..first + 2, later),
         6 => out.copy_within(first + 2..first + 2 + box_size, later + 2),
         7 => out[8] = out[8].wrapping_add(1 + rng.byte() % 36),
+        _ if rng.one_in(4) => put32(&mut out, rule_at + 3, rng.pick(&[1, -1]) * limits(accepted[3]).1),
         _ => out[rule_at + 4] ^= 0x40,
     }
     out
@@ -258,7 +317,7 @@ pub fn chart(rng: &mut Random) -> Vec<u8> {
     let bars: Vec<usize> = (0..labels).map(|_| rng.below(masks)).collect();
     for i in 0..count {
         let label = rng.below(labels);
-        put16(&mut out, first + label as i64);
+        put(&mut out, first + label as i64, 2);
         for a in 0..actions {
             let barred = (bars[label] >> a & 1 == 1) != rng.one_in(40);
             let needed = a + 1 == actions && next == i + 1;

@@ -60,7 +60,7 @@ pub fn twin(end: i64, (low, high): Range, looks: &[(u8, i64)]) -> Sheet {
         over(7, 2, (high, high), inner),
         over(8, 1, inner, (high, high)),
     ];
-    Sheet { counters: 3, actions: 3 + looks.len(), start: (2, vec![0, low, low]), regions }
+    Sheet { version: 1, counters: 3, actions: 3 + looks.len(), start: (2, vec![0, low, low]), regions }
 }
 
 /// A chain of the places 0 to `end` in state 0, each a new row only after many passes, and a hub in state 1 that all of them look at with
@@ -78,7 +78,7 @@ pub fn hub(end: i64, first: Range, second: Range, looks: usize) -> Sheet {
         region(3, 1, vec![(0, 0), (low, high - 1), second], with(raise, || keep(0))),
         region(4, 1, vec![(0, 0), (high, high), second], barred(1 + looks)),
     ];
-    Sheet { counters: 3, actions: 1 + looks, start: (0, vec![0, low, second.0]), regions }
+    Sheet { version: 1, counters: 3, actions: 1 + looks, start: (0, vec![0, low, second.0]), regions }
 }
 
 /// A ring of the places 0 to `end` that runs against the order of the rows. On leaving place 0, counter 1 is multiplied by the factor, so
@@ -98,7 +98,7 @@ pub fn doubling(end: i64, span: i64, factor: i64, mirrored: bool) -> Sheet {
         regions.push(at(4, (0, 0), (-span, -part - 1), barred(2)));
     }
     regions.push(at(5, (end + 1, end + 1), whole, vec![clear(keep(0)), clear(keep(0))]));
-    Sheet { counters: 2, actions: 2, start: (0, vec![0, 0]), regions }
+    Sheet { version: 1, counters: 2, actions: 2, start: (0, vec![0, 0]), regions }
 }
 
 /// One counter from 0 to `end`, where everything is barred: it is raised by one, mirrored, raised by one again, and set to each place that
@@ -109,7 +109,7 @@ pub fn looked_at(end: i64, looks: &[i64]) -> Sheet {
     let moves = own.into_iter().chain(looks.iter().map(|place| one(Rule::Set(*place))));
     let regions: Vec<Region> =
         vec![region(1, 0, vec![(0, end - 1)], moves.collect()), region(2, 0, vec![(end, end)], barred(3 + looks.len()))];
-    Sheet { counters: 1, actions: 3 + looks.len(), start: (0, vec![0]), regions }
+    Sheet { version: 1, counters: 1, actions: 3 + looks.len(), start: (0, vec![0]), regions }
 }
 
 fn small_twin(rng: &mut Random) -> Sheet {

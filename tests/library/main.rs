@@ -8,6 +8,7 @@ mod library;
 mod partition;
 mod random;
 mod sheets;
+mod versions;
 mod wrapper;
 
 use library::raw;
@@ -176,8 +177,18 @@ impl Test {
         self.count(format!("run on a refused {kind}: refused {}", refusal.number));
     }
 
-    /// Check, chart, box list and runs of any bytes, taken for a sheet. How far that came, in a word.
+    /// Check, chart, box list and runs of any bytes, taken for a sheet; of a version 1 sheet those of the same sheet in version 2 too, if it
+    /// passes refusals 1 to 4. How far that came, in a word.
     fn sheet(&mut self, bytes: &[u8]) -> &'static str {
+        let came = self.sheet_alone(bytes);
+        if let Some(wide) = versions::widened(bytes) {
+            self.both(bytes, &wide);
+            same("how far the sheet in version 2 came", &wide, self.sheet_alone(&wide), came);
+        }
+        came
+    }
+
+    fn sheet_alone(&mut self, bytes: &[u8]) -> &'static str {
         let (number, returned) = self.check("sheet", bytes);
         let read = sheets::check_but_landing(bytes);
         if read.as_ref().is_ok_and(|s| sheets::configurations(s) > MOST_CONFIGURATIONS) {
@@ -191,6 +202,9 @@ impl Test {
             Ok(sheet) => self.accepted(bytes, &sheet),
             Err(refusal) => {
                 self.count(format!("sheet: refused {}", refusal.number));
+                if refusal.number > 1 && bytes[3] == 2 {
+                    self.count(format!("sheet of version 2: refused {}", versions::refused_field(bytes, refusal)));
+                }
                 let (chart_room, list_room) = (self.rng.below(60), self.rng.below(60));
                 self.make(bytes, &Err(refusal), chart_room, list_room);
                 self.run_refused("sheet", bytes, refusal);
@@ -201,10 +215,11 @@ impl Test {
 
     fn accepted(&mut self, bytes: &[u8], sheet: &Sheet) -> &'static str {
         self.count(format!("sheet: accepted, counters {}", sheet.counters));
+        versions::used(sheet).into_iter().for_each(|what| self.count(what));
         let read = |actions: &[u8]| sheets::reading(sheet, actions);
         let expected = sheets::make(sheet);
         let Ok(made) = &expected else {
-            self.make(bytes, &expected, 3000, 4000);
+            self.make(bytes, &expected, 3000, 7000);
             self.make(bytes, &expected, 0, 0);
             self.runs(&[("sheet", bytes)], sheet.actions, read);
             return "refused 9";
@@ -251,9 +266,9 @@ impl Test {
     }
 
     /// An accepted sheet, its bytes.
-    fn accepted_sheet(&mut self) -> Vec<u8> {
+    fn accepted_sheet(&mut self, version: u8) -> Vec<u8> {
         loop {
-            let bytes = generate::encode(&generate::sheet(&mut self.rng));
+            let bytes = generate::encode(&generate::sheet(&mut self.rng, version));
             if sheets::check_but_landing(&bytes).is_ok_and(|s| sheets::check_landing(&s).is_ok()) {
                 return bytes;
             }
@@ -261,18 +276,21 @@ impl Test {
     }
 }
 
-/// The sample sheet's chart, and the answers that document 01 names: the independent implementation is held to them too.
-fn named(test: &mut Test) {
-    let doubled = |start, offset, low| generate::one_counter(start, &[(0, 7, Some((2, offset))), (low, 15, None)]);
-    let counted = |start, last| generate::one_counter(start, &[(0, last - 1, Some((1, 1))), (last, last, None)]);
+/// The sample sheet's chart, and the answers that document 01 names, with the places of the version: the independent implementation is held to
+/// them too.
+fn named(test: &mut Test, version: u8) {
+    let one_counter = |start, regions: &[_]| generate::one_counter(version, start, regions);
+    let doubled = |start, offset, low| one_counter(start, &[(0, 7, Some((2, offset))), (low, 15, None)]);
+    let counted = |start, last| one_counter(start, &[(0, last - 1, Some((1, 1))), (last, last, None)]);
     let refused = |number, returned| Err(Refusal { number, returned });
+    let (first_move, second_region) = if version == 1 { (18, 27) } else { (24, 33) };
     let cases = [
         (doubled(2, 1, 8), Ok(3)),
-        (doubled(2, 2, 8), refused(8, 18)),
-        (doubled(2, 1, 7), refused(6, 27)),
+        (doubled(2, 2, 8), refused(8, first_move)),
+        (doubled(2, 1, 7), refused(6, second_region)),
         (doubled(16, 1, 8), refused(7, 8)),
-        (generate::one_counter(2, &[(-8, 7, Some((-1, -1)))]), Ok(1)),
-        (generate::one_counter(0, &[(0, 1000, Some((2, 0))), (1001, 2000, None)]), Ok(1)),
+        (one_counter(2, &[(-8, 7, Some((-1, -1)))]), Ok(1)),
+        (one_counter(0, &[(0, 1000, Some((2, 0))), (1001, 2000, None)]), Ok(1)),
         (counted(0, 254), Ok(255)),
         (counted(0, 255), refused(9, 0)),
         (counted(1, 255), Ok(255)),
@@ -324,17 +342,12 @@ fn skipped_labels(bytes: &[u8], records: &Records, spoil: impl Fn(&mut [u8], usi
 
 /// The same on accepted sheets and on their charts. The fault behind a label is low above high in a sheet, and in a chart a target that is no block.
 fn refused_labels(test: &mut Test, count: usize) {
-    for _ in 0..count {
-        let bytes = test.accepted_sheet();
+    for i in 0..count {
+        let bytes = test.accepted_sheet(1 + (i % 2) as u8);
         let sheet = sheets::check_but_landing(&bytes).expect("accepted");
-        let (counters, actions) = (sheet.counters, sheet.actions);
-        let size = 3 + 4 * counters + actions * (2 + 7 * counters);
-        let regions = Records { first: 9 + 2 * counters, size, count: sheet.regions.len() };
-        let crossed = |out: &mut [u8], at: usize| {
-            out[at + 3..at + 7].copy_from_slice(&[5, 0, 4, 0]);
-            at + 5
-        };
-        for (changed, number, returned) in skipped_labels(&bytes, &regions, crossed) {
+        let (form, actions) = (generate::form_of(&bytes), sheet.actions);
+        let regions = Records { first: form.first, size: form.region, count: sheet.regions.len() };
+        for (changed, number, returned) in skipped_labels(&bytes, &regions, generate::cross) {
             same("label 65,535 of a sheet", &changed, test.check("sheet", &changed), (number, returned));
             test.sheet(&changed);
             test.count("label 65,535 in a sheet");
@@ -356,11 +369,11 @@ fn refused_labels(test: &mut Test, count: usize) {
     }
 }
 
-fn random_sheets(test: &mut Test, count: usize) {
+fn random_sheets(test: &mut Test, version: u8, count: usize) {
     for i in 0..count {
-        let bytes = generate::encode(&generate::sheet(&mut test.rng));
+        let bytes = generate::encode(&generate::sheet(&mut test.rng, version));
         test.sheet(&bytes);
-        let accepted = test.accepted_sheet();
+        let accepted = test.accepted_sheet(version);
         let damaged = generate::damaged(&mut test.rng, &accepted);
         test.sheet(&damaged);
         let refused = generate::refused(&mut test.rng, &accepted, 1 + (i % 8) as u8);
@@ -405,7 +418,7 @@ fn random_charts(test: &mut Test, count: usize) {
         test.chart(&bytes);
         let damaged = generate::damaged(&mut test.rng, &bytes);
         test.chart(&damaged);
-        let accepted = test.accepted_sheet();
+        let accepted = test.accepted_sheet(1);
         damaged_chart(test, &accepted);
     }
 }
@@ -421,6 +434,7 @@ fn kinds() -> Vec<String> {
     all.extend(numbers("run on a refused chart: refused ", &[1, 2, 3, 4, 12, 13, 14]));
     all.extend(numbers("run on a sheet: refused ", &[3, 10, 11]));
     all.extend(numbers("run on a chart: refused ", &[3, 10, 11]));
+    all.extend(versions::kinds());
     let hard = hard::SMALL.iter().flat_map(|(kind, _)| ["charted", "refused 9"].map(|came| format!("{kind}: {came}")));
     all.extend(hard);
     let others = [
@@ -448,9 +462,11 @@ fn main() {
     let [count, seed] = numbers[..] else { panic!("usage: library COUNT SEED") };
     let mut test = Test { rng: Random(seed), kinds: BTreeMap::new() };
     wrapper::test();
-    named(&mut test);
+    [1, 2].iter().for_each(|version| named(&mut test, *version));
     refused_labels(&mut test, count as usize / 20);
-    random_sheets(&mut test, count as usize);
+    versions::test(&mut test, count as usize / 20);
+    random_sheets(&mut test, 1, count as usize);
+    random_sheets(&mut test, 2, count as usize / 2);
     grids(&mut test, count as usize / 40);
     random_charts(&mut test, count as usize);
     hard_sheets(&mut test, count as usize / 60);

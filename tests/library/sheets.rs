@@ -1,5 +1,6 @@
 //! Sheets, read straight from document 01 and by no method of the library: every configuration is listed, the partition of all of
-//! them is refined by labels and targets until nothing changes, and the blocks are those that the start reaches.
+//! them is refined by labels and targets until nothing changes, and the blocks are those that the start reaches. What version 2 of the sheet
+//! changes is document 02's.
 
 use crate::partition::{refine, NONE as BARRED};
 use std::collections::HashMap;
@@ -36,6 +37,7 @@ pub struct Region {
 pub type Configuration = (u8, Vec<i64>);
 
 pub struct Sheet {
+    pub version: u8,
     pub counters: usize,
     pub actions: usize,
     pub start: Configuration,
@@ -59,9 +61,29 @@ pub struct Made {
     pub blocks: usize,
 }
 
+/// Bytes of a bound or a start value of a version.
+pub fn bound_size(version: u8) -> usize {
+    match version {
+        1 => 2,
+        2 => 4,
+        _ => panic!("no version {version}"),
+    }
+}
+
+/// How far from 0 a version has bounds and start values, and offsets. No number of 16 bits is out of its bounds.
+pub fn limits(version: u8) -> (i64, i64) {
+    match version {
+        1 => (32_768, 4_000_000),
+        2 => (1_000_000, 200_000_000),
+        _ => panic!("no version {version}"),
+    }
+}
+
+/// Reads numbers one after another.
 struct Cursor<'a> {
     bytes: &'a [u8],
     at: usize,
+    version: u8,
 }
 
 impl Cursor<'_> {
@@ -78,6 +100,14 @@ impl Cursor<'_> {
 
     fn byte(&mut self) -> u8 {
         self.unsigned(1) as u8
+    }
+
+    /// A bound or a start value.
+    fn bound(&mut self) -> Result<i64, Refusal> {
+        let at = self.at;
+        let value = self.signed(bound_size(self.version));
+        allowed(value.abs() <= limits(self.version).0, at)?;
+        Ok(value)
     }
 }
 
@@ -97,7 +127,7 @@ fn read_rule(c: &mut Cursor, counters: usize) -> Result<Rule, Refusal> {
     let carry = kind == 1;
     allowed(if carry { source < counters } else { source == 0 }, at + 1)?;
     allowed((factor != 0) == carry && factor.abs() <= 100, at + 2)?;
-    allowed(offset.abs() <= 4_000_000, at + 3)?;
+    allowed(offset.abs() <= limits(c.version).1, at + 3)?;
     Ok(if carry { Rule::Carry { source, factor, offset } } else { Rule::Set(offset) })
 }
 
@@ -130,8 +160,8 @@ fn read_region(c: &mut Cursor, counters: usize, actions: usize) -> Result<Region
     allowed(label != SKIPPED, place)?;
     let mut bounds = Vec::new();
     for _ in 0..counters {
-        let (low, at) = (c.signed(2), c.at);
-        let high = c.signed(2);
+        let (low, at) = (c.bound()?, c.at);
+        let high = c.bound()?;
         allowed(low <= high, at)?;
         bounds.push((low, high));
     }
@@ -142,9 +172,9 @@ fn read_region(c: &mut Cursor, counters: usize, actions: usize) -> Result<Region
     Ok(Region { place, label, state, bounds, moves })
 }
 
-/// Refusals 1 to 4.
-fn read(bytes: &[u8]) -> Result<Sheet, Refusal> {
-    if bytes.len() < 9 || !bytes.starts_with(b"MSH\x01\x00") {
+/// Refusals 1 to 4, and the sheet.
+pub fn read(bytes: &[u8]) -> Result<Sheet, Refusal> {
+    if bytes.len() < 9 || !(bytes.starts_with(b"MSH\x01\x00") || bytes.starts_with(b"MSH\x02\x00")) {
         return refuse(1, 0);
     }
     for (place, most) in [(5, 3), (6, 8), (7, 32)] {
@@ -152,15 +182,15 @@ fn read(bytes: &[u8]) -> Result<Sheet, Refusal> {
             return refuse(2, place);
         }
     }
-    let (counters, actions, count) = (bytes[5] as usize, bytes[6] as usize, bytes[7] as usize);
-    let region_size = 3 + 4 * counters + actions * (2 + 7 * counters);
-    if bytes.len() != 9 + 2 * counters + count * region_size {
+    let (version, counters, actions, count) = (bytes[3], bytes[5] as usize, bytes[6] as usize, bytes[7] as usize);
+    let size = bound_size(version);
+    if bytes.len() != 9 + size * counters + count * (3 + 2 * size * counters + actions * (2 + 7 * counters)) {
         return refuse(3, bytes.len());
     }
-    let mut c = Cursor { bytes, at: 9 };
-    let start = (bytes[8], (0..counters).map(|_| c.signed(2)).collect());
+    let mut c = Cursor { bytes, at: 9, version };
+    let start = (bytes[8], (0..counters).map(|_| c.bound()).collect::<Result<_, _>>()?);
     let regions = (0..count).map(|_| read_region(&mut c, counters, actions)).collect::<Result<_, _>>()?;
-    Ok(Sheet { counters, actions, start, regions })
+    Ok(Sheet { version, counters, actions, start, regions })
 }
 
 fn inside(region: &Region, x: &Configuration) -> bool {
@@ -309,7 +339,7 @@ fn write(listed: &Listed, part: &[u32], order: &[usize], block: &HashMap<u32, us
     let (sheet, actions) = (listed.sheet, listed.sheet.actions);
     let mut chart = b"BCH\x01\x00".to_vec();
     chart.extend([actions as u8, order.len() as u8]);
-    let (ends, mut list) = (boxes(listed, part, block), Vec::new());
+    let (ends, mut list, size) = (boxes(listed, part, block), Vec::new(), bound_size(sheet.version));
     for (i, k) in order.iter().enumerate() {
         let region = &sheet.regions[listed.first.partition_point(|f| f <= k) - 1];
         chart.extend(region.label.to_le_bytes());
@@ -318,8 +348,8 @@ fn write(listed: &Listed, part: &[u32], order: &[usize], block: &HashMap<u32, us
         }
         list.push(region.state);
         for (low, high) in &ends[i][..sheet.counters] {
-            list.extend((*low as i16).to_le_bytes());
-            list.extend((*high as i16).to_le_bytes());
+            list.extend(&low.to_le_bytes()[..size]);
+            list.extend(&high.to_le_bytes()[..size]);
         }
     }
     Made { chart, list, blocks: order.len() }

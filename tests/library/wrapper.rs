@@ -3,11 +3,12 @@
 
 use crate::generate::{encode, one_counter, region};
 use crate::library::{
-    chart_length, check_sheet, list_length, make, run_chart, run_room, run_sheet, Refusal, Run, LONGEST_CHART, LONGEST_LIST,
-    LONGEST_SEQUENCE, LONGEST_SHEET, MOST_ACTIONS, MOST_BLOCKS, MOST_COUNTERS, MOST_REGIONS, SKIPPED,
+    bound_size, chart_length, check_sheet, list_length, make, run_chart, run_room, run_sheet, Refusal, Run, LONGEST_CHART,
+    LONGEST_LIST, LONGEST_SEQUENCE, LONGEST_SHEET, MOST_ACTIONS, MOST_BLOCKS, MOST_COUNTERS, MOST_REGIONS, SKIPPED,
+    VERSION_1_LONGEST_LIST, VERSION_1_LONGEST_SHEET,
 };
 use crate::same;
-use crate::sheets::{Move, Rule, Sheet};
+use crate::sheets::{self, Move, Rule, Sheet};
 use std::collections::BTreeSet;
 use std::error::Error;
 
@@ -66,14 +67,14 @@ fn refusals() {
 
 /// The lengths of an accepted sheet's chart and box list are those that the library asks for.
 pub fn lengths(bytes: &[u8], sheet: &Sheet, blocks: usize) {
-    let (chart, list) = (chart_length(blocks, sheet.actions), list_length(blocks, sheet.counters));
+    let (chart, list) = (chart_length(blocks, sheet.actions), list_length(sheet.version, blocks, sheet.counters));
     same("chart_length", bytes, make(bytes, &mut [], &mut []), refused(10, chart));
     same("list_length", bytes, make(bytes, &mut vec![0; chart], &mut []), refused(10, list));
 }
 
 /// 32 regions along the first of 3 counters and 8 actions, the first of which adds one up to 254. The last region has the last value alone,
 /// so every value is a block of its own.
-fn longest() -> Sheet {
+fn longest(version: u8) -> Sheet {
     let carry = |source, offset| Rule::Carry { source, factor: 1, offset };
     let step = || Move { target: 0, rules: vec![carry(0, 1), carry(1, 0), carry(2, 0)] };
     let ends = |i: i64| match i {
@@ -83,46 +84,64 @@ fn longest() -> Sheet {
     };
     let moves = |i: i64| (0..8).map(|a| (a == 0 && i < 31).then(step)).collect();
     let regions = (0..32).map(|i| region(i as u16, 0, vec![ends(i), (0, 0), (0, 0)], moves(i))).collect();
-    Sheet { counters: 3, actions: 8, start: (0, vec![0; 3]), regions }
+    Sheet { version, counters: 3, actions: 8, start: (0, vec![0; 3]), regions }
 }
 
-/// The constants are the library's limits: what is at the limit is done, and one more is refused.
-fn limits() {
-    let sheet = longest();
+/// The constants are the library's limits: what is at the limit is done, and one more is refused. The longest are those of version 2.
+fn limits(version: u8) {
+    let (longest_sheet, longest_list) = match version {
+        1 => (VERSION_1_LONGEST_SHEET, VERSION_1_LONGEST_LIST),
+        _ => (LONGEST_SHEET, LONGEST_LIST),
+    };
+    let sheet = longest(version);
     let bytes = encode(&sheet);
-    same("LONGEST_SHEET", &bytes, bytes.len(), LONGEST_SHEET);
+    same("the longest sheet", &bytes, bytes.len(), longest_sheet);
     same("check of the longest sheet", &bytes, check_sheet(&bytes), Ok(()));
     same("LONGEST_CHART", &bytes, make(&bytes, &mut [], &mut []), refused(10, LONGEST_CHART));
-    same("LONGEST_LIST", &bytes, make(&bytes, &mut [0; LONGEST_CHART], &mut []), refused(10, LONGEST_LIST));
-    same("blocks of the longest chart", &bytes, make(&bytes, &mut [0; LONGEST_CHART], &mut [0; LONGEST_LIST]), Ok(MOST_BLOCKS));
+    same("the longest list", &bytes, make(&bytes, &mut [0; LONGEST_CHART], &mut []), refused(10, longest_list));
+    let made = |room| make(&bytes, &mut [0; LONGEST_CHART], &mut [0; LONGEST_LIST][..room]);
+    same("a list one byte short", &bytes, made(longest_list - 1), refused(10, longest_list));
+    same("blocks of the longest chart", &bytes, made(longest_list), Ok(MOST_BLOCKS));
+    same("bound_size", &bytes, bound_size(version), sheets::bound_size(version));
     lengths(&bytes, &sheet, MOST_BLOCKS);
+    counts(&bytes, version);
+    sequences(&bytes);
+}
+
+/// The longest sheet's counts, and the most blocks.
+fn counts(bytes: &[u8], version: u8) {
     for (place, most) in [(5, MOST_COUNTERS), (6, MOST_ACTIONS), (7, MOST_REGIONS)] {
-        same("a count at its limit", &bytes, usize::from(bytes[place]), most);
-        let mut more = bytes.clone();
+        same("a count at its limit", bytes, usize::from(bytes[place]), most);
+        let mut more = bytes.to_vec();
         more[place] += 1;
         same("a count past its limit", &more, check_sheet(&more), refused(2, place));
     }
-    let counted = |blocks: usize| one_counter(1, &[(1, blocks as i64 - 1, Some((1, 1))), (blocks as i64, blocks as i64, None)]);
+    let counted =
+        |blocks: usize| one_counter(version, 1, &[(1, blocks as i64 - 1, Some((1, 1))), (blocks as i64, blocks as i64, None)]);
     let made = |blocks| make(&counted(blocks), &mut [0; LONGEST_CHART], &mut [0; LONGEST_LIST]);
     same("MOST_BLOCKS", &counted(MOST_BLOCKS), made(MOST_BLOCKS), Ok(MOST_BLOCKS));
     same("a block more", &counted(MOST_BLOCKS + 1), made(MOST_BLOCKS + 1), refused(9, 0));
+}
+
+/// Runs on the longest sheet, of the longest sequence and one more.
+fn sequences(bytes: &[u8]) {
     let (actions, mut entries) = ([0; LONGEST_SEQUENCE + 1], [0; run_room(LONGEST_SEQUENCE + 1)]);
     let ran = Run { entries: run_room(LONGEST_SEQUENCE), barred: Some(254) };
-    same("LONGEST_SEQUENCE", &bytes, run_sheet(&bytes, &actions[1..], &mut entries), Ok(ran));
+    same("LONGEST_SEQUENCE", bytes, run_sheet(bytes, &actions[1..], &mut entries), Ok(ran));
     let (read, rest) = entries.split_at(run_room(LONGEST_SEQUENCE));
-    same("the actions that were barred", &bytes, read[255..].iter().all(|e| *e == SKIPPED), true);
-    same("the label before them, and the entry behind", &bytes, (read[254], rest), (31, [0].as_slice()));
-    same("an action more", &bytes, run_sheet(&bytes, &actions, &mut entries), refused(3, LONGEST_SEQUENCE + 1));
+    same("the actions that were barred", bytes, read[255..].iter().all(|e| *e == SKIPPED), true);
+    same("the label before them, and the entry behind", bytes, (read[254], rest), (31, [0].as_slice()));
+    same("an action more", bytes, run_sheet(bytes, &actions, &mut entries), refused(3, LONGEST_SEQUENCE + 1));
     for count in [0, 1, 2, LONGEST_SEQUENCE] {
-        same("run_room", &bytes, run_sheet(&bytes, &actions[..count], &mut entries[..count]), refused(10, run_room(count)));
+        same("run_room", bytes, run_sheet(bytes, &actions[..count], &mut entries[..count]), refused(10, run_room(count)));
     }
 }
 
 /// Runs of the sample sheet and of its chart: P9 as document 02 has it, shorter ones and a longer one.
 fn runs() {
     let read = [10, 10, 20, SKIPPED, SKIPPED];
-    let sheet = one_counter(2, &[(0, 7, Some((2, 1))), (8, 15, None)]);
-    let (mut chart, mut list) = ([0; chart_length(3, 1)], [0; list_length(3, 1)]);
+    let sheet = one_counter(1, 2, &[(0, 7, Some((2, 1))), (8, 15, None)]);
+    let (mut chart, mut list) = ([0; chart_length(3, 1)], [0; list_length(1, 3, 1)]);
     same("the sample chart", &sheet, make(&sheet, &mut chart, &mut list), Ok(3));
     for count in 0..5 {
         let (actions, mut entries) = (vec![0; count], vec![0; run_room(count)]);
@@ -133,12 +152,12 @@ fn runs() {
         same("a run on the sample chart", &chart, run_chart(&chart, &actions, &mut entries), expected);
         same("what it read", &chart, &entries[..], &read[..=count]);
     }
-    let last = one_counter(8, &[(0, 7, Some((2, 1))), (8, 15, None)]);
+    let last = one_counter(1, 8, &[(0, 7, Some((2, 1))), (8, 15, None)]);
     same("a run barred at once", &last, run_sheet(&last, &[0], &mut [0; 2]), Ok(Run { entries: 2, barred: Some(0) }));
 }
 
 pub fn test() {
     refusals();
-    limits();
+    [1, 2].into_iter().for_each(limits);
     runs();
 }

@@ -17,6 +17,7 @@ use Rattle.model.specs.Sheet.{Sheet}
 use Rattle.model.specs.Blocks.{blocks, tooMany, chartOf, boxListOf}
 use Rattle.refinement.specs.Completed.{completed-blocks, completed-few}
 use Rattle.sheet_bytes.specs.declared.Shape.{Shape}
+use Rattle.sheet_bytes.specs.Layout.{boundSize}
 use Rattle.sheet_bytes.specs.Three.{shapeOf}
 use Rattle.sheet_bytes.specs.Decode.{decode}
 use Rattle.sheet.specs.Accepted.{stages, accepted}
@@ -29,24 +30,24 @@ use Rattle.minimize.specs.Steps.{Table, Answered, refused as many, done as tabl
 use Rattle.charting.specs.declared.Made.{Made}
 use Rattle.charting.specs.declared.Made.the-variants.{Done}
 
--- how many bytes the chart and the box list take
+-- how many bytes the chart takes, and the box list with w bytes a bound
 unfoldable pub chartSize : Sheet → ℕ
 chartSize s = 7 + length (blocks s) * (2 + s .actions)
 
-unfoldable pub listSize : Sheet → ℕ
-listSize s = length (blocks s) * (1 + 4 * s .counters)
+unfoldable pub listSize : ℕ → Sheet → ℕ
+listSize w s = length (blocks s) * (1 + 2 * w * s .counters)
 
 -- 10 for the first short buffer, chart, then list, by the lengths needed and those that the buffers have
 unfoldable pub roomsFor : ℕ → ℕ → ℕ → ℕ → Checked
 roomsFor c l chart list = andThen (demand (leb c chart) 10 c) (demand (leb l list) 10 l)
 
--- 9 for more than 255 blocks, then 10
-unfoldable pub blockChecks : Sheet → ℕ → ℕ → Checked
-blockChecks s chart list = andThen (demand (not (tooMany s)) 9 0) (roomsFor (chartSize s) (listSize s) chart list)
+-- 9 for more than 255 blocks, then 10, with w bytes a bound
+unfoldable pub blockChecks : ℕ → Sheet → ℕ → ℕ → Checked
+blockChecks w s chart list = andThen (demand (not (tooMany s)) 9 0) (roomsFor (chartSize s) (listSize w s) chart list)
 
 -- all checks, for buffers of given lengths
 unfoldable pub makeChecks : List ℕ → ℕ → ℕ → Checked
-makeChecks s chart list = andThen (sheetCheck s) (blockChecks (decode s) chart list)
+makeChecks s chart list = andThen (sheetCheck s) (blockChecks (boundSize s) (decode s) chart list)
 
 -- the answer: the refusal, or the number of blocks
 unfoldable pub madeBy : Checked → Sheet → Made
@@ -58,27 +59,27 @@ unfoldable pub writtenBy : Checked → List ℕ → List ℕ → List ℕ
 writtenBy Fine front old = overwrite front old
 writtenBy (Refused n p) front old = old
 
--- What is answered and left in the buffers is what the checks say.
-pub record Makes (checks : Checked) (s : Sheet) (r : Made) (chart chart′ list list′ : List ℕ) : Type 0 where
+-- What is answered and left in the buffers is what the checks say, with w bytes a bound.
+pub record Makes (checks : Checked) (w : ℕ) (s : Sheet) (r : Made) (chart chart′ list list′ : List ℕ) : Type 0 where
   pub answer : r ≡ madeBy checks s
   pub chart-left : chart′ ≡ writtenBy checks (chartOf s) chart
-  pub list-left : list′ ≡ writtenBy checks (boxListOf 2 s) list
+  pub list-left : list′ ≡ writtenBy checks (boxListOf w s) list
 
-pub makes-refused : {checks : Checked} {n p : ℕ} (s : Sheet) (chart list : List ℕ) → Refused n p ≡ checks → Makes checks s (Made.Refused n p) chart chart list list
+pub makes-refused : {checks : Checked} {n p : ℕ} (w : ℕ) (s : Sheet) (chart list : List ℕ) → Refused n p ≡ checks → Makes checks w s (Made.Refused n p) chart chart list list
 unfolding madeBy writtenBy
-makes-refused {checks} {n} {p} s chart list e =
-    subst (λ (k : Checked). Makes k s (Made.Refused n p) chart chart list list) e (record { answer = refl; chart-left = refl; list-left = refl })
+makes-refused {checks} {n} {p} w s chart list e =
+    subst (λ (k : Checked). Makes k w s (Made.Refused n p) chart chart list list) e (record { answer = refl; chart-left = refl; list-left = refl })
 
-pub makes-done : {checks : Checked} (s : Sheet) (n : ℕ) (chart chart′ list list′ : List ℕ) → Fine ≡ checks → length (blocks s) ≡ n
-    → chart′ ≡ overwrite (chartOf s) chart → list′ ≡ overwrite (boxListOf 2 s) list → Makes checks s (Done n) chart chart′ list list′
+pub makes-done : {checks : Checked} (w : ℕ) (s : Sheet) (n : ℕ) (chart chart′ list list′ : List ℕ) → Fine ≡ checks → length (blocks s) ≡ n
+    → chart′ ≡ overwrite (chartOf s) chart → list′ ≡ overwrite (boxListOf w s) list → Makes checks w s (Done n) chart chart′ list list′
 unfolding madeBy writtenBy
-makes-done {checks} s n chart chart′ list list′ e b p q =
-    subst (λ (k : Checked). Makes k s (Done n) chart chart′ list list′) e (record { answer = ap Done (sym b); chart-left = p; list-left = q })
+makes-done {checks} w s n chart chart′ list list′ e b p q =
+    subst (λ (k : Checked). Makes k w s (Done n) chart chart′ list list′) e (record { answer = ap Done (sym b); chart-left = p; list-left = q })
 
 -- the checks behind those of the sheet
-pub many-blocks : (s : Sheet) (chart list : ℕ) → tooMany s ≡ true → Refused 9 0 ≡ blockChecks s chart list
+pub many-blocks : (w : ℕ) (s : Sheet) (chart list : ℕ) → tooMany s ≡ true → Refused 9 0 ≡ blockChecks w s chart list
 unfolding blockChecks
-many-blocks s chart list e = refused _ (sym (demand-failed (not (tooMany s)) 9 0 (ap not e)))
+many-blocks w s chart list e = refused _ (sym (demand-failed (not (tooMany s)) 9 0 (ap not e)))
 
 module _ {s : List ℕ} {shape : Shape} (R : Ready s shape) {c : List ℤ} {h t : List ℕ} {n : ℕ} (D : Table s shape c h t n) where
   pub table-blocks : length (blocks (decode s)) ≡ n
@@ -89,20 +90,23 @@ module _ {s : List ℕ} {shape : Shape} (R : Ready s shape) {c : List ℤ} {h t 
   chart-size =
       ap (λ (k : ℕ). 7 + k * (2 + shape .actions)) (sym table-blocks) ∙ ap (λ (k : ℕ). 7 + length (blocks (decode s)) * (2 + k)) (actions-decoded R)
 
-  list-size : n * (1 + 4 * shape .counters) ≡ listSize (decode s)
+  list-size : n * (1 + 2 * shape .width * shape .counters) ≡ listSize (boundSize s) (decode s)
   unfolding listSize
   list-size =
-      ap (λ (k : ℕ). k * (1 + 4 * shape .counters)) (sym table-blocks) ∙ ap (λ (k : ℕ). length (blocks (decode s)) * (1 + 4 * k)) (counters-decoded R)
+      ap (λ (k : ℕ). k * (1 + 2 * shape .width * shape .counters)) (sym table-blocks)
+      ∙ ap (λ (k : ℕ). length (blocks (decode s)) * (1 + 2 * k * shape .counters)) (R .read .width-is)
+      ∙ ap (λ (k : ℕ). length (blocks (decode s)) * (1 + 2 * boundSize s * k)) (counters-decoded R)
 
   few-blocks : demand (not (tooMany (decode s))) 9 0 ≡ Fine
   few-blocks = sym (demand-passed (not (tooMany (decode s))) 9 0 (ap not (completed-few (decode s) (R .well) (D .completed))))
 
   -- so the rooms are those of its blocks
-  pub rooms-checked : (chart list : ℕ) → roomsFor (7 + n * (2 + shape .actions)) (n * (1 + 4 * shape .counters)) chart list ≡ blockChecks (decode s) chart list
+  pub rooms-checked : (chart list : ℕ)
+      → roomsFor (7 + n * (2 + shape .actions)) (n * (1 + 2 * shape .width * shape .counters)) chart list ≡ blockChecks (boundSize s) (decode s) chart list
   unfolding blockChecks
   rooms-checked chart list =
       passed few-blocks
-      (ap (λ (k : ℕ). roomsFor k (n * (1 + 4 * shape .counters)) chart list) chart-size ∙ ap (λ (k : ℕ). roomsFor (chartSize (decode s)) k chart list) list-size)
+      (ap (λ (k : ℕ). roomsFor k (n * (1 + 2 * shape .width * shape .counters)) chart list) chart-size ∙ ap (λ (k : ℕ). roomsFor (chartSize (decode s)) k chart list) list-size)
 
 -- rooms that suffice
 pub rooms-pass : (c l chart list : ℕ) → c ≤ chart → l ≤ list → Fine ≡ roomsFor c l chart list
@@ -119,20 +123,20 @@ rooms-fit c l chart list e =
 -- an accepted sheet is what the refinement is given
 pub accepted-ready : (s : List ℕ) → Bytes s → sheetCheck s ≡ Fine → (shape : Shape) → shape ≡ shapeOf s → Ready s shape
 accepted-ready s B e shape q =
-    subst (Ready s) (sym q) (record { read = record { shaped = stages s e .shape; counters-are = refl; actions-are = refl; regions-are = refl }; well = accepted s B e })
+    subst (Ready s) (sym q) (record { read = record { shaped = stages s e .shape; counters-are = refl; actions-are = refl; regions-are = refl; width-is = refl }; well = accepted s B e })
 
 -- the checks of a refused sheet, and of an accepted one
 pub sheet-refused : (s : List ℕ) (chart list n p : ℕ) {r : Checked} → r ≡ sheetCheck s → r ≡ Refused n p → Refused n p ≡ makeChecks s chart list
 unfolding makeChecks
-sheet-refused s chart list n p e q = refused (blockChecks (decode s) chart list) (sym e ∙ q)
+sheet-refused s chart list n p e q = refused (blockChecks (boundSize s) (decode s) chart list) (sym e ∙ q)
 
-pub sheet-passed : (s : List ℕ) (chart list : ℕ) {r : Checked} → r ≡ sheetCheck s → r ≡ Fine → blockChecks (decode s) chart list ≡ makeChecks s chart list
+pub sheet-passed : (s : List ℕ) (chart list : ℕ) {r : Checked} → r ≡ sheetCheck s → r ≡ Fine → blockChecks (boundSize s) (decode s) chart list ≡ makeChecks s chart list
 unfolding makeChecks
 sheet-passed s chart list e q = passed (sym e ∙ q) refl
 
-pub makes-by : {checks checks′ : Checked} (s : Sheet) (r : Made) (chart chart′ list list′ : List ℕ) → checks ≡ checks′ → Makes checks s r chart chart′ list list′
-    → Makes checks′ s r chart chart′ list list′
-makes-by s r chart chart′ list list′ e M = subst (λ (k : Checked). Makes k s r chart chart′ list list′) e M
+pub makes-by : {checks checks′ : Checked} (w : ℕ) (s : Sheet) (r : Made) (chart chart′ list list′ : List ℕ) → checks ≡ checks′ → Makes checks w s r chart chart′ list list′
+    → Makes checks′ w s r chart chart′ list list′
+makes-by w s r chart chart′ list list′ e M = subst (λ (k : Checked). Makes k w s r chart chart′ list list′) e M
 
 -- what the refinement answered
 pub answered-many : {s : List ℕ} {shape : Shape} {c : List ℤ} {h t : List ℕ} {r : Refined} → Answered s shape c h t r → r ≡ TooMany → tooMany (decode s) ≡ true

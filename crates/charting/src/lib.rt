@@ -4,7 +4,9 @@ ghost use mathlib.Core.Path.{_≡_};
 ghost use Prim.Native.Nat.{_+_, _*_, _≤_};
 ghost use lib.ListN.{length};
 ghost use Rattle.model.specs.Blocks.{chartOf, boxListOf};
+ghost use Rattle.sheet_bytes.specs.Layout.{boundSize};
 ghost use Rattle.sheet_bytes.specs.Decode.{decode};
+ghost use Rattle.sheet_bytes.specs.Fields.{Small};
 ghost use Rattle.tables.specs.Arrays.{CellsRoom, HomesRoom, TargetsRoom};
 ghost use Rattle.tables.specs.Meaning.{Ready};
 ghost use Rattle.minimize.specs.Steps.{Table};
@@ -25,15 +27,15 @@ pub enum Made {
 
 // 10: the first short buffer, chart, then list.
 fn check_rooms(shape: Shape, n: usize, chart_room: usize, list_room: usize) -> Checked
-    requires { ⌜ (shape .counters ≤ 3) × (shape .actions ≤ 8) × (n ≤ 255) ⌝ }
-    ensures { λ r. ⌜ r ≡ roomsFor (7 + n * (2 + shape .actions)) (n * (1 + 4 * shape .counters)) «chart_room» «list_room» ⌝ }
+    requires { ⌜ Small shape × (n ≤ 255) ⌝ }
+    ensures { λ r. ⌜ r ≡ roomsFor (7 + n * (2 + shape .actions)) (n * (1 + 2 * shape .width * shape .counters)) «chart_room» «list_room» ⌝ }
 {
     let needed = 7 + n * (2 + shape.actions);
     let chart = demanded(needed <= chart_room, 10, needed);
     let Checked::Fine = chart else {
         return chart;
     };
-    let needed = n * (1 + 4 * shape.counters);
+    let needed = n * (1 + 2 * shape.width * shape.counters);
     demanded(needed <= list_room, 10, needed)
 }
 
@@ -53,7 +55,7 @@ fn make_blocks(
     requires { ⌜ HomesRoom (now homes) ⌝ }
     requires { ⌜ TargetsRoom (now targets) ⌝ }
     requires { ⌜ Table (now s) shape (now cells) (now homes) (now targets) n ⌝ }
-    ensures { λ r. ⌜ Makes (blockChecks (decode (now (s .entry))) (length (now (chart .entry))) (length (now (list .entry)))) (decode (now (s .entry))) r (now (chart .entry)) (now (chart .exit)) (now (list .entry)) (now (list .exit)) ⌝ }
+    ensures { λ r. ⌜ Makes (blockChecks (boundSize (now (s .entry))) (decode (now (s .entry))) (length (now (chart .entry))) (length (now (list .entry)))) (boundSize (now (s .entry))) (decode (now (s .entry))) r (now (chart .entry)) (now (chart .exit)) (now (list .entry)) (now (list .exit)) ⌝ }
 {
     let rooms = check_rooms(shape, n, chart.len(), list.len());
     let Checked::Refused { number, returned } = rooms else {
@@ -66,7 +68,7 @@ fn make_blocks(
 // 9 for more than 255 blocks.
 fn make_accepted(s: &[u8], shape: Shape, chart: &mut [u8], list: &mut [u8]) -> Made
     requires { ⌜ Ready (now s) shape ⌝ }
-    ensures { λ r. ⌜ Makes (blockChecks (decode (now (s .entry))) (length (now (chart .entry))) (length (now (list .entry)))) (decode (now (s .entry))) r (now (chart .entry)) (now (chart .exit)) (now (list .entry)) (now (list .exit)) ⌝ }
+    ensures { λ r. ⌜ Makes (blockChecks (boundSize (now (s .entry))) (decode (now (s .entry))) (length (now (chart .entry))) (length (now (list .entry)))) (boundSize (now (s .entry))) (decode (now (s .entry))) r (now (chart .entry)) (now (chart .exit)) (now (list .entry)) (now (list .exit)) ⌝ }
 {
     let mut cells = [0i64; 2295];
     let mut homes = [0u8; 510];
@@ -85,7 +87,7 @@ fn make_accepted(s: &[u8], shape: Shape, chart: &mut [u8], list: &mut [u8]) -> M
 pub fn make(s: &[u8], chart: &mut [u8], list: &mut [u8]) -> Made
     ensures { λ r. ⌜ r ≡ madeBy (makeChecks (now (s .entry)) (length (now (chart .entry))) (length (now (list .entry)))) (decode (now (s .entry))) ⌝ }
     ensures { λ _. ⌜ now (chart .exit) ≡ writtenBy (makeChecks (now (s .entry)) (length (now (chart .entry))) (length (now (list .entry)))) (chartOf (decode (now (s .entry)))) (now (chart .entry)) ⌝ }
-    ensures { λ _. ⌜ now (list .exit) ≡ writtenBy (makeChecks (now (s .entry)) (length (now (chart .entry))) (length (now (list .entry)))) (boxListOf 2 (decode (now (s .entry)))) (now (list .entry)) ⌝ }
+    ensures { λ _. ⌜ now (list .exit) ≡ writtenBy (makeChecks (now (s .entry)) (length (now (chart .entry))) (length (now (list .entry)))) (boxListOf (boundSize (now (s .entry))) (decode (now (s .entry)))) (now (list .entry)) ⌝ }
 {
     let checked = sheet::check(s);
     let Checked::Refused { number, returned } = checked else {

@@ -1,5 +1,5 @@
 -- What is claimed of the running code (the mission's demands 2 and 3). Statements alone; Proofs.antt has their proofs. Of one making: s has the sheet's bytes,
--- m is the answer, chart and list are the lent buffers before the call, chart′ and list′ after it.
+-- of either version, m is the answer, chart and list are the lent buffers before the call, chart′ and list′ after it.
 use mathlib.Core.Path.{_≡_}
 use mathlib.Core.Logic.{_↔_}
 use mathlib.Core.List.{List}
@@ -14,7 +14,7 @@ use Rattle.model.specs.Blocks.{blocks, chartOf, boxListOf}
 use Rattle.model.specs.Chart.{chartSystem}
 use Rattle.model.specs.BoxList.{listedBox}
 use Rattle.model.specs.Theorems.{MinimalReachable, ChartRight, SheetEntries}
-use Rattle.sheet_bytes.specs.Layout.{countersOf, actionsOf}
+use Rattle.sheet_bytes.specs.Layout.{boundSize, countersOf, actionsOf}
 use Rattle.sheet_bytes.specs.Decode.{decode}
 use Rattle.sheet.specs.Check.{sheetCheck}
 use Rattle.sheet.specs.RunSheet.{sheetRan, sheetLeft}
@@ -33,7 +33,7 @@ chartLeft s chart list = writtenBy (makeChecks s (length chart) (length list)) (
 
 -- and the list's
 abbrev pub listLeft : List ℕ → List ℕ → List ℕ → List ℕ
-listLeft s chart list = writtenBy (makeChecks s (length chart) (length list)) (boxListOf 2 (decode s)) list
+listLeft s chart list = writtenBy (makeChecks s (length chart) (length list)) (boxListOf (boundSize s) (decode s)) list
 
 -- the sheet's transition system, and how many blocks it has
 abbrev pub systemOf : List ℕ → System Configuration
@@ -49,7 +49,7 @@ chartLength s n = 7 + n * (2 + actionsOf s)
 -- The buffers suffice for the chart and the list of n blocks.
 pub record Suffices (s : List ℕ) (n : ℕ) (chart list : List ℕ) : Type 0 where
   pub chart-room : chartLength s n ≤ length chart
-  pub list-room : n * (1 + 4 * countersOf s) ≤ length list
+  pub list-room : n * (1 + 2 * boundSize s * countersOf s) ≤ length list
 
 -- a configuration that the sheet reaches from its start
 abbrev pub ReachedOf : List ℕ → Configuration → Type 0
@@ -59,9 +59,9 @@ ReachedOf s x = Reached (systemOf s) (decode s .start) x
 abbrev pub ReadAlike : List ℕ → Configuration → Configuration → Type 0
 ReadAlike s x y = (w : List ℕ) → reading (systemOf s) w x ≡ reading (systemOf s) w y
 
--- the configuration is in the box that record i of the list holds, two bytes a bound
+-- the configuration is in the box that record i of the list holds, as wide as the sheet's bounds
 abbrev pub InListed : List ℕ → List ℕ → ℕ → Configuration → Type 0
-InListed s list i x = T (inBox (listedBox 2 (countersOf s) list i) x)
+InListed s list i x = T (inBox (listedBox (boundSize s) (countersOf s) list i) x)
 
 -- The boxes in the n records of a list, as read from its bytes.
 pub record BoxesRight (s : List ℕ) (n : ℕ) (chart list : List ℕ) : Type 0 where
@@ -116,8 +116,8 @@ SameBehaviour s t = (actionsOf s ≡ actionsOf t) × ((w : List ℕ) → Below (
 abbrev pub SameBarred : List ℕ → List ℕ → Type 0
 SameBarred s t = (w : List ℕ) → Below (actionsOf s) w → sheetReading (decode s) w .barred ≡ sheetReading (decode t) w .barred
 
--- Demand 3, of two makings: accepted sheets with at most 255 blocks each, in buffers that suffice, whatever these held, are both made, and the chart bytes
--- are equal just when the sheets behave alike. Accepted sheets that behave alike have the same actions barred first.
+-- Demand 3, of two makings: accepted sheets of either version, or one of each, with at most 255 blocks each, in buffers that suffice, whatever these held,
+-- are both made, and the chart bytes are equal just when the sheets behave alike. Accepted sheets that behave alike have the same actions barred first.
 pub record Demand3 (s t : List ℕ) (m₁ m₂ : Made) (chart₁ list₁ chart₂ list₂ chart₁′ chart₂′ : List ℕ) : Type 0 where
   pub equal-charts : sheetCheck s ≡ Fine → sheetCheck t ≡ Fine
       → blockCount s ≤ 255 → blockCount t ≤ 255

@@ -10,7 +10,7 @@ use lib.Dec.{T}
 use lib.ListN.{length, getD, take, drop}
 use lib.Seq.{take-at, getD-take, ext-getD}
 use borrow.Author.Tests.{ltb-false, le-ltb, lt-ltb}
-use Rattle.integers.specs.LittleEndian.{Bytes, signed-held}
+use Rattle.integers.specs.LittleEndian.{Bytes}
 use Rattle.systems.specs.System.{Reading, reading, Below}
 use Rattle.systems.specs.Explored.{Many}
 use Rattle.answers.specs.declared.Checked.{Checked}
@@ -24,9 +24,10 @@ use Rattle.model.specs.ChartBytes.{chartOf-length}
 use Rattle.model.specs.ChartRules.{block-alike}
 use Rattle.model.specs.BoxList.{listedBox, RangeHeld, BoundsHeld, boxes-listed}
 use Rattle.model.specs.Theorems.{MinimalReachable, minimal-reachable, chart-right, charts-tell, sheet-entries}
-use Rattle.sheet_bytes.specs.Layout.{countersOf, actionsOf, regionsOf, lowPlace, highPlace}
+use Rattle.sheet_bytes.specs.Layout.{boundSize, countersOf, actionsOf, regionsOf}
 use Rattle.sheet_bytes.specs.Decode.{decode, rangeAt, boxAt, regionAt}
-use Rattle.sheet_bytes.specs.Bounds.{each-listed}
+use Rattle.sheet_bytes.specs.Shape.{two-or-four, width-few}
+use Rattle.sheet_bytes.specs.Bounds.{each-listed, range-held}
 use Rattle.sheet.specs.Check.{sheetCheck}
 use Rattle.sheet.specs.Accepted.{accepted}
 use Rattle.sheet.specs.RunSheet.{sheetRunCheck, sheetRan, sheetLeft}
@@ -66,7 +67,7 @@ makes s chart list n e =
     let (f, k) = made-fine (makeChecks s (length chart) (length list)) (decode s) n e in
     let (a, r) = then-fine (sheetCheck s) _ f in
     let (b, q) = then-fine (demand (not (tooMany (decode s))) 9 0) _ r in
-    let (x, y) = rooms-fit (chartSize (decode s)) (listSize (decode s)) (length chart) (length list) q in
+    let (x, y) = rooms-fit (chartSize (decode s)) (listSize (boundSize s) (decode s)) (length chart) (length list) q in
     record {
       passes = f;
       count = k;
@@ -87,13 +88,13 @@ checks-pass s chart list a few room =
     sym
     (passed a
     (passed (sym (demand-passed (not (tooMany (decode s))) 9 0 (ap not (le-ltb 255 (blockCount s) few))))
-    (rooms-pass (chartSize (decode s)) (listSize (decode s)) (length chart) (length list) (room .chart-room) (room .list-room))))
+    (rooms-pass (chartSize (decode s)) (listSize (boundSize s) (decode s)) (length chart) (length list) (room .chart-room) (room .list-room))))
 
 -- and one with more is refused 9, whatever the buffers are
 checks-many : (s chart list : List ℕ) → sheetCheck s ≡ Fine → 255 < blockCount s → makeChecks s (length chart) (length list) ≡ Refused 9 0
 unfolding tooMany
 checks-many s chart list a many =
-    sym (many-blocks (decode s) (length chart) (length list) (lt-ltb 255 (blockCount s) many) ∙ sheet-passed s (length chart) (length list) refl a)
+    sym (many-blocks (boundSize s) (decode s) (length chart) (length list) (lt-ltb 255 (blockCount s) many) ∙ sheet-passed s (length chart) (length list) refl a)
 
 made-done : (s chart list : List ℕ) → sheetCheck s ≡ Fine → blockCount s ≤ 255 → Suffices s (blockCount s) chart list → made s chart list ≡ Done (blockCount s)
 unfolding madeBy
@@ -117,23 +118,23 @@ left-unchanged : (c : Checked) (s : Sheet) (k p : ℕ) (front old : List ℕ) �
 unfolding writtenBy
 left-unchanged c s k p front old e = ap (λ (d : Checked). writtenBy d front old) (made-refused c s k p e)
 
--- two bytes hold the bounds that were read from two bytes
-bounds-held : (s : List ℕ) → Bytes s → BoundsHeld 2 (decode s)
-unfolding decode regionAt boxAt rangeAt
+-- as many bytes as a bound takes hold the bounds that were read
+bounds-held : (s : List ℕ) → Bytes s → BoundsHeld (boundSize s) (decode s)
+unfolding decode regionAt boxAt
 bounds-held s B =
-    each-listed {P = λ (r : Region). Each (RangeHeld 2) (r .box .ranges)} (regionAt s) (regionsOf s) (λ i h.
-    each-listed {P = RangeHeld 2} (rangeAt s i) (countersOf s) (λ v k.
-    record { low-held = signed-held 2 s (lowPlace s i v) (omega arith) B; high-held = signed-held 2 s (highPlace s i v) (omega arith) B }))
+    each-listed {P = λ (r : Region). Each (RangeHeld (boundSize s)) (r .box .ranges)} (regionAt s) (regionsOf s) (λ i h.
+    each-listed {P = RangeHeld (boundSize s)} (rangeAt s i) (countersOf s) (λ v k. range-held s i v B))
 
 -- the list's buffer holds the classes of the blocks
 box-written : (s chart list : List ℕ) (n : ℕ) → Bytes s → made s chart list ≡ Done n → (i : ℕ) → i < n
-    → listedBox 2 (countersOf s) (listLeft s chart list) i ≡ classOf (decode s) (blockAt (decode s) i)
+    → listedBox (boundSize s) (countersOf s) (listLeft s chart list) i ≡ classOf (decode s) (blockAt (decode s) i)
 unfolding writtenBy overwrite decode
 box-written s chart list n B e i h =
     let M = makes s chart list n e in
     let k = M .count in
-    ap (λ (c : Checked). listedBox 2 (countersOf s) (writtenBy c (boxListOf 2 (decode s)) list) i) (M .passes)
-    ∙ boxes-listed 2 (decode s) (accepted s B (M .accepts)) (omega arith) (bounds-held s B) i (drop (length (boxListOf 2 (decode s))) list) (omega arith)
+    let w = width-few (boundSize s) (two-or-four s) in
+    ap (λ (c : Checked). listedBox (boundSize s) (countersOf s) (writtenBy c (boxListOf (boundSize s) (decode s)) list) i) (M .passes)
+    ∙ boxes-listed (boundSize s) (decode s) (accepted s B (M .accepts)) (omega arith) (bounds-held s B) i (drop (length (boxListOf (boundSize s) (decode s))) list) (omega arith)
 
 -- so what the theorems say of classes holds of the listed boxes
 boxes-right-of : (s chart list : List ℕ) (n : ℕ) → Bytes s → made s chart list ≡ Done n → BoxesRight s n (chartLeft s chart list) (listLeft s chart list)
@@ -233,7 +234,7 @@ demand-2 s chart list B =
       only-ground = only-ground-of s chart list B;
       refused-unchanged = λ k p e. (
         left-unchanged (makeChecks s (length chart) (length list)) (decode s) k p (chartOf (decode s)) chart e,
-        left-unchanged (makeChecks s (length chart) (length list)) (decode s) k p (boxListOf 2 (decode s)) list e,
+        left-unchanged (makeChecks s (length chart) (length list)) (decode s) k p (boxListOf (boundSize s) (decode s)) list e,
       );
     }
 

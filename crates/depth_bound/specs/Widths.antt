@@ -1,19 +1,16 @@
 -- Laws by which the code finds a width that no range of a sheet exceeds, the doublings that fill it, and the depth.
-use mathlib.Core.Path.{_≡_, refl, sym, ap, subst, _∙_}
+use mathlib.Core.Path.{_≡_, sym, ap, subst, _∙_}
 use mathlib.Core.Logic.{⊎-elim}
-use mathlib.Core.Bool.{Bool, true, false, cond}
+use mathlib.Core.Bool.{Bool, true}
 use mathlib.Core.List.{List}
 use Prim.Native.Nat.{ℕ, zero, suc, _+_, _*_, _^_, _≤_, _<_, max}
 use native.Mathlib.Omega.{arith}
 use native.Mathlib.Numerals.{add-one}
 use native.Mathlib.Nat.{two-pow-succ, pow-le-pow-right, mul-le-mul-left, mul-le-mul-right, le-trans}
 use native.Mathlib.Decide.{decLt}
-use lib.Dec.{ltb}
-use borrow.Author.Tests.{ltb-true}
 use Rattle.integers.specs.Order.{ints}
 use Rattle.integers.specs.declared.Range.{Range}
-use Rattle.integers.specs.Range.{size, vacant, size-some, size-none, within-size, within-zero, RangeWithin}
-use Rattle.systems.specs.Lists.{getD-each, length-each}
+use Rattle.integers.specs.Range.{size, vacant, size-some, size-none, within-size, RangeWithin}
 use Rattle.systems.specs.Laws.{told, true-is}
 use Rattle.model.specs.Sheet.{Sheet, Region, nowhere, regionAt, Each, each-none, each-more, RangeFits, WellFormed}
 use Rattle.model.specs.Classes.{each-at}
@@ -25,7 +22,7 @@ use Rattle.sheet_bytes.specs.Layout.{countersOf}
 use Rattle.sheet_bytes.specs.Decode as Decode
 use Rattle.sheet_bytes.specs.Decode.{decode, listed, rangeAt}
 use Rattle.sheet_bytes.specs.Three.{Read, firsts, padded, zeroRange, boxThree, firsts-padded}
-use Rattle.sheet_bytes.specs.Bounds.{RangesWithin}
+use Rattle.sheet_bytes.specs.Bounds.{RangesWithin, each-of, box-within}
 use Rattle.depth_bound.specs.Depth.{UnitFactors, NarrowRegion, NarrowRanges, widened, exactDepth, Tells}
 use Rattle.depth_bound.specs.Factors.{region-is, regions-count, below-more}
 
@@ -42,17 +39,6 @@ firsts-each P x y z (suc zero) h p q r = each-more p each-none
 firsts-each P x y z (suc (suc zero)) h p q r = each-more p (each-more q each-none)
 firsts-each P x y z (suc (suc (suc zero))) h p q r = each-more p (each-more q (each-more r each-none))
 firsts-each P x y z (suc (suc (suc (suc n)))) h p q r = absurd (omega arith)
-
--- a property of all n and of the padding is one of those that were padded
-padded-each : {A : Type 0} {P : A → Type 0} (d : A) (f : ℕ → A) (n v : ℕ) → P d → Each P (listed f n) → P (padded d f n v)
-unfolding padded
-padded-each {A} {P} d f n v z e = go (ltb v n) refl
-  where
-    go : (t : Bool) → ltb v n ≡ t → P (cond t (f v) d)
-    go true k =
-        let l = ltb-true v n k in
-        subst P (getD-each f n d v l) (each-at e v d (omega (arith, length-each f n)))
-    go false k = z
 
 -- how many values a range within bounds can have
 size-le : (r : Range) → RangeWithin 1000000 r → size r ≤ 2000001
@@ -81,16 +67,10 @@ module _ {s : List ℕ} {shape : Shape} (R : Read s shape) where
 
   -- the box that the code reads is within bounds
   pub box-fits : WellFormed (decode s) → (i : ℕ) → i < shape .regions → {b : RegionBox} → b ≡ boxThree s i → RangesWithin 1000000 (b .ranges)
-  unfolding boxThree
-  box-fits W i h e = subst (λ (b : RegionBox). RangesWithin 1000000 (b .ranges)) (sym e) (record { first-within = fits 0; second-within = fits 1; third-within = fits 2 })
-    where
-      all : Each RangeFits (listed (rangeAt s i) (countersOf s))
-      all = subst (Each RangeFits) (ranges-are i h) (each-at (W .regions-fit) i nowhere (omega (arith, regions-count R)) .ranges-fit)
-
-      fits : (v : ℕ) → RangeWithin 1000000 (padded zeroRange (rangeAt s i) (countersOf s) v)
-      fits v =
-          padded-each {P = RangeWithin 1000000} zeroRange (rangeAt s i) (countersOf s) v (record { low-within = within-zero 1000000; high-within = within-zero 1000000 })
-          (each-map (λ r F. record { low-within = F .low-fits; high-within = F .high-fits }) all)
+  box-fits W i h e =
+      let F = subst (Each RangeFits) (ranges-are i h) (each-at (W .regions-fit) i nowhere (omega (arith, regions-count R)) .ranges-fit) in
+      subst (λ (b : RegionBox). RangesWithin 1000000 (b .ranges)) (sym e)
+      (box-within s i (λ v k. let f = each-of (rangeAt s i) (countersOf s) F v k in record { low-within = f .low-fits; high-within = f .high-fits }))
 
   -- the region whose box made the width wider
   widened-narrow : (w i : ℕ) → i < shape .regions → NarrowRegion (decode s) (widened w (boxThree s i .ranges)) i

@@ -1,5 +1,5 @@
 -- What a reader of a box list sees, from its bytes alone (document 01: "Box list: N records of state (8-bit) and V pairs low, high (16-bit signed)"). A bound
--- takes n bytes, 2 in sheet version 1. Definitions and the theorem's statement first, then its proof: record i of a sheet's list is the class of block i.
+-- takes n bytes, 2 in sheet version 1 and 4 in version 2 (document 02, U4). Definitions and the theorem's statement first, then its proof: record i of a sheet's list is the class of block i.
 use mathlib.Core.Path.{_≡_, sym, ap, _∙_}
 use mathlib.Core.List.{List, [], _∷_, _++_, append-assoc}
 use Prim.Native.Nat.{ℕ, zero, suc, _+_, _*_, _-_, _≤_, _<_}
@@ -50,7 +50,7 @@ abbrev pub BoxesListed : ℕ → Sheet → Type 0
 BoxesListed n s = (i : ℕ) (rest : List ℕ) → i < length (blocks s) → listedBox n (s .counters) (boxListOf n s ++ rest) i ≡ classOf s (blockAt s i)
 
 -- n bytes hold the bounds of a range in order inside one whose bounds they hold
-inside-held : (n : ℕ) (q r : Range) → r .low ≤ℤ q .low → q .low ≤ℤ q .high → q .high ≤ℤ r .high → RangeHeld n r → RangeHeld n q
+pub inside-held : (n : ℕ) (q r : Range) → r .low ≤ℤ q .low → q .low ≤ℤ q .high → q .high ≤ℤ r .high → RangeHeld n r → RangeHeld n q
 inside-held n q r l o u x =
     let a = x .low-held in
     let b = x .high-held in

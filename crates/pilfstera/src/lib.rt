@@ -4,6 +4,7 @@
 ghost use mathlib.Core.Path.{_≡_};
 ghost use lib.ListN.{length};
 ghost use Rattle.model.specs.Blocks.{chartOf, boxListOf};
+ghost use Rattle.sheet_bytes.specs.Layout.{boundSize};
 ghost use Rattle.sheet_bytes.specs.Decode.{decode};
 ghost use Rattle.sheet.specs.Check.{sheetCheck};
 ghost use Rattle.sheet.specs.RunSheet.{sheetRan, sheetLeft};
@@ -155,7 +156,7 @@ pub extern "C" fn pilfstera_make(
 ) -> u8
     ensures { λ r. ⌜ r ≡ makeNumber (madeBy (makeChecks (now (sheet .entry)) (length (now (chart .entry))) (length (now (list .entry)))) (decode (now (sheet .entry)))) ⌝ }
     ensures { λ _. ⌜ now (chart .exit) ≡ writtenBy (makeChecks (now (sheet .entry)) (length (now (chart .entry))) (length (now (list .entry)))) (chartOf (decode (now (sheet .entry)))) (now (chart .entry)) ⌝ }
-    ensures { λ _. ⌜ now (list .exit) ≡ writtenBy (makeChecks (now (sheet .entry)) (length (now (chart .entry))) (length (now (list .entry)))) (boxListOf 2 (decode (now (sheet .entry)))) (now (list .entry)) ⌝ }
+    ensures { λ _. ⌜ now (list .exit) ≡ writtenBy (makeChecks (now (sheet .entry)) (length (now (chart .entry))) (length (now (list .entry)))) (boxListOf (boundSize (now (sheet .entry))) (decode (now (sheet .entry)))) (now (list .entry)) ⌝ }
     ensures { λ _. ⌜ now (returned .exit) ≡ makeReturned (madeBy (makeChecks (now (sheet .entry)) (length (now (chart .entry))) (length (now (list .entry)))) (decode (now (sheet .entry)))) ⌝ }
 {
     let made = charting::make(sheet, chart, list);

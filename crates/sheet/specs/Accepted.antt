@@ -21,12 +21,12 @@ use Rattle.model.specs.Sheet.{Configuration, Box, Move, Barred, Region, RegionF
 use Rattle.model.specs.Listing.{members}
 use Rattle.model.specs.Finite.{members-mem}
 use Rattle.model.specs.Classes.{covered-in, in-covered, number-is}
-use Rattle.sheet_bytes.specs.Layout.{countersOf, actionsOf, regionsOf, regionPlace, labelAt, stateAt, highPlace, movePlace, movePart, rulePlace, kindOf}
+use Rattle.sheet_bytes.specs.Layout.{offsetLimit, countersOf, actionsOf, regionsOf, startPlace, regionPlace, labelAt, stateAt, lowPlace, highPlace, movePlace, movePart, rulePlace, kindOf}
 use Rattle.sheet_bytes.specs.Decode.{listed, rangeAt, boxAt, moveAt, regionAt, startOf, decode}
-use Rattle.sheet_bytes.specs.Shape.{Shaped}
+use Rattle.sheet_bytes.specs.Shape.{Shaped, length-le}
 use Rattle.sheet_bytes.specs.Bounds.{each-listed}
-use Rattle.sheet_form.specs.Form.{from-to, checkHeader, checkCounts, checkLength, checkRule, checkZeroRule, checkMove, checkFields}
-use Rattle.sheet_form.specs.Fits.{label-fits, moves-fit, range-fits}
+use Rattle.sheet_form.specs.Form.{from-to, checkHeader, checkCounts, checkLength, checkValue, checkBound, checkRule, checkZeroRule, checkMove, checkFields, checkLimits}
+use Rattle.sheet_form.specs.Fits.{label-fits, moves-fit, range-fits, limits-fields}
 use Rattle.sheet.specs.Check.{checkLabel, checkOverlap, covered, checkStart, every, lands, checkLanding, overlap, sheetCheck}
 use Rattle.sheet.specs.Overlap.{overlap-out, regions-apart}
 
@@ -70,11 +70,15 @@ stages s e =
     let (a, r₁) = then-fine (checkHeader s) _ e in
     let (b, r₂) = then-fine (checkCounts s) _ r₁ in
     let (c, r₃) = then-fine (checkLength s) _ r₂ in
-    let (d, r₄) = then-fine (each (checkFields s) (regionsOf s)) _ r₃ in
+    let (d, r₄) = then-fine (checkLimits s) _ r₃ in
     let (f, r₅) = then-fine (each (checkLabel s) (regionsOf s)) _ r₄ in
     let (g, r₆) = then-fine (each (checkOverlap s) (regionsOf s)) _ r₅ in
     let (h, k) = then-fine (checkStart s) _ r₆ in
-    record { shape = shaped s b c; fields = d; labels = f; apart = g; start = h; landing = k }
+    record { shape = shaped s b c; fields = limits-fields s d; labels = f; apart = g; start = h; landing = k }
+
+-- No longer sheet is accepted: a reader of sheets may stop one byte past that length.
+pub accepted-length : (s : List ℕ) → sheetCheck s ≡ Fine → length s ≤ 6773
+accepted-length s e = length-le s (stages s e .shape)
 
 -- the decoded regions, by index
 module _ (s : List ℕ) where
@@ -306,9 +310,9 @@ unfolding run
 early-each f zero h = early-fine Fine refl
 early-each f (suc n) h = early-then (each f n) (f n) (early-each f n h) (h n)
 
-early-rule : (V# : ℕ) (p : List ℕ) (at : ℕ) → Early (checkRule V# p at)
+early-rule : (V# most : ℕ) (p : List ℕ) (at : ℕ) → Early (checkRule V# most p at)
 unfolding checkRule
-early-rule V# p at =
+early-rule V# most p at =
     early-then _ _ (early-demand _ 4 at (lit< tt))
     (early-then _ _ (early-demand _ 4 (at + 1) (lit< tt)) (early-then _ _ (early-demand _ 4 (at + 2) (lit< tt)) (early-demand _ 4 (at + 3) (lit< tt))))
 
@@ -318,23 +322,34 @@ early-zero p at =
     early-then _ _ (early-demand _ 4 at (lit< tt))
     (early-then _ _ (early-demand _ 4 (at + 1) (lit< tt)) (early-then _ _ (early-demand _ 4 (at + 2) (lit< tt)) (early-demand _ 4 (at + 3) (lit< tt))))
 
-early-move : (V# : ℕ) (p : List ℕ) (at : ℕ) → Early (checkMove V# p at)
+early-move : (V# most : ℕ) (p : List ℕ) (at : ℕ) → Early (checkMove V# most p at)
 unfolding checkMove
-early-move V# p at = early-then _ _ (early-demand _ 4 at (lit< tt)) (go (eqb (kindOf p) 0))
+early-move V# most p at = early-then _ _ (early-demand _ 4 at (lit< tt)) (go (eqb (kindOf p) 0))
   where
     go : (k : Bool) → Early (elim k [
       | true ↦ andThen (demand (eqb (getD p 1 0) 0) 4 (at + 1)) (each (λ v. checkZeroRule (drop (rulePlace v) p) (at + rulePlace v)) V#)
-      | false ↦ each (λ v. checkRule V# (drop (rulePlace v) p) (at + rulePlace v)) V#
+      | false ↦ each (λ v. checkRule V# most (drop (rulePlace v) p) (at + rulePlace v)) V#
     ])
     go true = early-then _ _ (early-demand _ 4 (at + 1) (lit< tt)) (early-each _ V# (λ v. early-zero (drop (rulePlace v) p) (at + rulePlace v)))
-    go false = early-each _ V# (λ v. early-rule V# (drop (rulePlace v) p) (at + rulePlace v))
+    go false = early-each _ V# (λ v. early-rule V# most (drop (rulePlace v) p) (at + rulePlace v))
+
+early-bound : (s : List ℕ) (i v : ℕ) → Early (checkBound s i v)
+unfolding checkBound
+early-bound s i v =
+    early-then _ _ (early-demand _ 4 (lowPlace s i v) (lit< tt))
+    (early-then _ _ (early-demand _ 4 (highPlace s i v) (lit< tt)) (early-demand _ 4 (highPlace s i v) (lit< tt)))
 
 early-fields : (s : List ℕ) (i : ℕ) → Early (checkFields s i)
 unfolding checkFields
 early-fields s i =
     early-then _ _ (early-demand _ 4 (regionPlace s i) (lit< tt))
-    (early-then _ _ (early-each _ (countersOf s) (λ v. early-demand _ 4 (highPlace s i v) (lit< tt)))
-    (early-each _ (actionsOf s) (λ a. early-move (countersOf s) (movePart s i a) (movePlace s i a))))
+    (early-then _ _ (early-each _ (countersOf s) (early-bound s i))
+    (early-each _ (actionsOf s) (λ a. early-move (countersOf s) (offsetLimit s) (movePart s i a) (movePlace s i a))))
+
+early-limits : (s : List ℕ) → Early (checkLimits s)
+unfolding checkLimits checkValue
+early-limits s =
+    early-then _ _ (early-each _ (countersOf s) (λ v. early-demand _ 4 (startPlace s v) (lit< tt))) (early-each (checkFields s) (regionsOf s) (early-fields s))
 
 -- Bytes that are refused 5 to 8 are no well-formed sheet.
 pub refused-late : (s : List ℕ) (n p : ℕ) → sheetCheck s ≡ Refused n p → 5 ≤ n → WellFormed (decode s) → ⊥
@@ -345,7 +360,7 @@ refused-late s n p e h W =
     (early-then (checkCounts s) _
     (early-then _ _ (early-demand _ 2 5 (lit< tt)) (early-then _ _ (early-demand _ 2 6 (lit< tt)) (early-demand _ 2 7 (lit< tt))))
     (early-then (checkLength s) _ (early-demand _ 3 (length s) (lit< tt))
-    (early-then (each (checkFields s) (regionsOf s)) _ (early-each (checkFields s) (regionsOf s) (early-fields s))
+    (early-then (checkLimits s) _ (early-limits s)
     (early-then _ _ (early-fine _ (labels-pass s W))
     (early-then _ _ (early-fine _ (overlap-pass s W)) (early-then _ _ (early-fine _ (start-pass s W)) (early-fine _ (landing-pass s W)))))))) in
     omega (arith, early n p e)

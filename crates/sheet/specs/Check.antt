@@ -13,7 +13,7 @@ use Rattle.model.specs.Sheet.{Configuration, moved, inBox}
 use Rattle.model.specs.Listing.{members}
 use Rattle.sheet_bytes.specs.Layout.{countersOf, actionsOf, regionsOf, regionPlace, labelAt, stateAt, movePlace}
 use Rattle.sheet_bytes.specs.Decode.{rangeAt, boxAt, moveAt, startOf}
-use Rattle.sheet_form.specs.Form.{checkHeader, checkCounts, checkLength, checkFields}
+use Rattle.sheet_form.specs.Form.{checkHeader, checkCounts, checkLength, checkLimits}
 
 -- 5, region j: an earlier region has its label
 unfoldable pub checkLabel : List ℕ → ℕ → Checked
@@ -55,7 +55,7 @@ sheetCheck s =
     andThen (checkHeader s)
     (andThen (checkCounts s)
     (andThen (checkLength s)
-    (andThen (each (checkFields s) (regionsOf s))
+    (andThen (checkLimits s)
     (andThen (each (checkLabel s) (regionsOf s))
     (andThen (each (checkOverlap s) (regionsOf s))
     (andThen (checkStart s) (each (λ i. each (checkLanding s i) (actionsOf s)) (regionsOf s))))))))

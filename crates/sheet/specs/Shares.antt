@@ -33,8 +33,8 @@ use Rattle.sheet_bytes.specs.Shape.{Shaped}
 use Rattle.sheet_bytes.specs.Fields.{rest}
 use Rattle.sheet_bytes.specs.Three.{rangesThree, rulesThree, boxThree, moveThree, moveOfKind, moveMeant, move-meant, rulesMeant, firsts-padded, zeroRule}
 use Rattle.sheet_bytes.specs.Cuts.{allThree, cutsThree}
-use Rattle.sheet_bytes.specs.Bounds.{RangesWithin, RulesFit, box-within, rules-fit}
-use Rattle.sheet_form.specs.Fits.{moves-fit}
+use Rattle.sheet_bytes.specs.Bounds.{RangesWithin, RulesFit, rules-fit}
+use Rattle.sheet_form.specs.Fits.{moves-fit, box-fits}
 use Rattle.sheet.specs.Check.{checkLanding}
 use Rattle.sheet.specs.Counting.{sum}
 use Rattle.sheet.specs.Volumes.{shareThree, cuts-volume, ranges-volume}
@@ -115,6 +115,7 @@ left-none (suc left) x total e = ne-eqb (suc left) 0 (λ d. omega arith) ∙ sym
 pub record Countable (s : List ℕ) (b : Ranges) (m : RegionMove) : Type 0 where
   pub ranges : RangesWithin 1000000 b
   pub rules : RulesFit (m .rules)
+  pub boxes : (j : ℕ) → j < regionsOf s → RangesWithin 1000000 (boxThree s j .ranges)
   pub enough : sharesThree s b m (regionsOf s) ≤ volume (allThree b)
 
 module _ (s : List ℕ) (S : Shaped s) (b : Bytes s) (P : Passed s) (i a : ℕ) (h : i < regionsOf s) (k : a < actionsOf s) (m : RegionMove)
@@ -150,7 +151,8 @@ module _ (s : List ℕ) (S : Shaped s) (b : Bytes s) (P : Passed s) (i a : ℕ) 
       let v = volume-meant s S i in
       let l = shares-le s S P i (getD (movePart s i a) 1 0) (listed (ruleAt (movePart s i a)) (countersOf s)) f (length-each (ruleAt (movePart s i a)) (countersOf s)) in
       subst (Countable s (boxThree s i .ranges)) (sym e) (record {
-        ranges = box-within s i b;
+        ranges = box-fits s b (P .fields) i h;
+        boxes = box-fits s b (P .fields);
         rules = rules-fit (ruleAt (movePart s i a)) (countersOf s) (S .counters-few) f;
         enough = omega arith;
       })

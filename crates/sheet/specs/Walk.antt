@@ -37,8 +37,8 @@ use Rattle.sheet_bytes.specs.Layout.{countersOf, actionsOf, regionsOf, startVal
 use Rattle.sheet_bytes.specs.Decode.{ruleAt, moveAt, regionAt, startOf, decode}
 use Rattle.sheet_bytes.specs.Three.{Read, firsts, rangesMeant, valuesMeant, rulesMeant, boxMeant, configMeant, moveMeant, moveOfKind, padded, padded-out, zeroRule, boxThree, startThree, moveThree, box-meant, start-meant, move-meant}
 use Rattle.sheet_bytes.specs.Space.{RulesSafe, ValuesWithin, allThree, landThree, land-meant, fits-safe}
-use Rattle.sheet_bytes.specs.Bounds.{RangesWithin, box-within}
-use Rattle.sheet_form.specs.Fits.{moves-fit}
+use Rattle.sheet_bytes.specs.Bounds.{RangesWithin}
+use Rattle.sheet_form.specs.Fits.{moves-fit, box-fits}
 use Rattle.sheet.specs.declared.walk.Acted.{Acted}
 use Rattle.sheet.specs.Check.{sheetCheck}
 use Rattle.sheet.specs.Landing.{Passed}
@@ -125,7 +125,7 @@ module _ (s : List ℕ) (B : Bytes s) (e : sheetCheck s ≡ Fine) where
       let c : Covered (decode s) y = omega (arith, k .there, k .number) in
       let t = subst (λ (j : ℕ). T (inBox (Model.regionAt (decode s) j .box) y)) (sym (k .number)) (covered-in (decode s) y c) in
       let u = subst (λ (b : Box). T (inBox b y)) (box-is s i (k .there) ∙ sym (box-meant s (S .shape) i)) t in
-      values-within (countersOf s) (boxThree s i .ranges) (x .values) (S .shape .counters-some) (S .shape .counters-few) (box-within s i B)
+      values-within (countersOf s) (boxThree s i .ranges) (x .values) (S .shape .counters-some) (S .shape .counters-few) (box-fits s B (S .fields) i (k .there))
       (inBox-parts (boxMeant (countersOf s) (boxThree s i)) y .0 u .1) (k .spare)
 
   -- the label there

@@ -1,5 +1,6 @@
 -- The whole check, as the code goes through its stages.
 use mathlib.Core.Path.{_≡_, ap}
+use mathlib.Core.Bool.{_&&_}
 use mathlib.Core.List.{List}
 use Prim.Native.Nat.{ℕ, _≤_}
 use lib.Dec.{leb}
@@ -10,17 +11,17 @@ use Rattle.answers.specs.declared.Checked.{Checked}
 use Rattle.answers.specs.declared.Checked.the-variants.{Fine}
 use Rattle.answers.specs.Stages.{andThen, demand, each, then-fine}
 use Rattle.sheet_bytes.specs.declared.Shape.{Shape}
-use Rattle.sheet_bytes.specs.Layout.{sheetMark, countersOf, actionsOf, regionsOf}
+use Rattle.sheet_bytes.specs.Layout.{sheetMark, versionOf, countersOf, actionsOf, regionsOf}
 use Rattle.sheet_bytes.specs.Shape.{Shaped}
 use Rattle.sheet_bytes.specs.Three.{Read, shapeOf}
-use Rattle.sheet_form.specs.Form.{sameBytes, from-to, checkHeader, checkCounts, checkFields}
+use Rattle.sheet_form.specs.Form.{sameBytes, from-to, checkHeader, checkCounts, checkLimits}
 use Rattle.sheet.specs.Check.{checkLabel, checkOverlap, checkStart, checkLanding}
 use Rattle.sheet.specs.Accepted.{between, demanded}
 
 -- 4 to 8
 unfoldable pub contentsCheck : List ℕ → Checked
 contentsCheck s =
-    andThen (each (checkFields s) (regionsOf s))
+    andThen (checkLimits s)
     (andThen (each (checkLabel s) (regionsOf s))
     (andThen (each (checkOverlap s) (regionsOf s)) (andThen (checkStart s) (each (λ i. each (checkLanding s i) (actionsOf s)) (regionsOf s)))))
 
@@ -28,7 +29,7 @@ contentsCheck s =
 pub header-long : (s : List ℕ) → checkHeader s ≡ Fine → 9 ≤ length s
 unfolding checkHeader
 header-long s e =
-    let t = both (leb 9 (length s)) (sameBytes (take 5 s) sheetMark) .0 (demanded _ 1 0 e) .0 in
+    let t = both (leb 9 (length s)) (sameBytes (take 3 s) sheetMark && from-to 1 2 (versionOf s)) .0 (demanded _ 1 0 e) .0 in
     leb-true 9 (length s) (is-true (leb 9 (length s)) t)
 
 pub counts-few : (s : List ℕ) → checkCounts s ≡ Fine → (countersOf s ≤ 3) × (actionsOf s ≤ 8) × (regionsOf s ≤ 32)
@@ -45,4 +46,5 @@ read-shape s e S =
       counters-are = ap (λ (x : Shape). x .counters) e;
       actions-are = ap (λ (x : Shape). x .actions) e;
       regions-are = ap (λ (x : Shape). x .regions) e;
+      width-is = ap (λ (x : Shape). x .width) e;
     }

@@ -29,7 +29,7 @@ unfoldable pub moveOf : ℕ → List ℕ → Move
 moveOf V# p = elim (eqb (kindOf p) 0) [ true ↦ Barred | false ↦ Open (getD p 1 0) (listed (ruleAt p) V#) ]
 
 unfoldable pub rangeAt : List ℕ → ℕ → ℕ → Range
-rangeAt s i v = record { low = signedAt boundSize s (lowPlace s i v); high = signedAt boundSize s (highPlace s i v) }
+rangeAt s i v = record { low = signedAt (boundSize s) s (lowPlace s i v); high = signedAt (boundSize s) s (highPlace s i v) }
 
 unfoldable pub boxAt : List ℕ → ℕ → Box
 boxAt s i = record { state = stateAt s i; ranges = listed (rangeAt s i) (countersOf s) }

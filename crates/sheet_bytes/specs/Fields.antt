@@ -1,5 +1,7 @@
 -- Laws by which the readers of a sheet's fields meet their definitions.
-use mathlib.Core.Path.{_≡_, sym, ap, _∙_}
+use mathlib.Core.Path.{_≡_, refl, sym, ap, subst, _∙_}
+use mathlib.Core.Logic.{inl, inr}
+use mathlib.Core.Bool.{true, false}
 use mathlib.Core.List.{List}
 use Prim.Native.Nat.{ℕ, _+_, _*_, _-_, _≤_, _<_}
 use native.Mathlib.Nat.{mul-le-mul-left}
@@ -18,10 +20,29 @@ use Rattle.sheet_bytes.specs.declared.Config.{Config}
 use Rattle.sheet_bytes.specs.declared.Move.{Move}
 use Rattle.sheet_bytes.specs.declared.Move.the-variants.{Barred, Open}
 use Rattle.sheet_bytes.specs.declared.RegionMove.{RegionMove}
-use Rattle.sheet_bytes.specs.Layout.{countersOf, actionsOf, moveSize, regionSize, regionPlace, movePlace, movePart, lowPlace, highPlace, rulePlace, startState, startValue, stateAt, kindOf, sourceOf, factorOf, offsetOf}
+use Rattle.sheet_bytes.specs.Layout.{countersOf, wide, boundSize, offsetLimit, moveSize, regionSize, placeBy, regionPlace, movePlace, movePart, lowPlace, highPlace, rulePlace, startState, startPlace, startValue, stateAt, kindOf, sourceOf, factorOf, offsetOf}
 use Rattle.sheet_bytes.specs.Decode.{rangeAt, ruleOf, ruleAt}
-use Rattle.sheet_bytes.specs.Shape.{regionSize-le, moveSize-le, region-end, bound-end, move-end, header-end, length-le, rule-end}
+use Rattle.sheet_bytes.specs.Shape.{TwoOrFour, two-or-four, width-few, bounds-le, moveSize-le, moves-le, regions-le, region-end, start-end, bound-end, move-end, header-end, length-le, rule-end}
 use Rattle.sheet_bytes.specs.Three.{Read, padded, padded-in, padded-out, zeroRange, zeroRule, boxThree, startPadded, startThree, kindNamed, moveThree}
+
+-- a shape within the limits of the counts: places made of it are small
+pub record Small (shape : Shape) : Type 0 where
+  pub counters-small : shape .counters ≤ 3
+  pub actions-small : shape .actions ≤ 8
+  pub regions-small : shape .regions ≤ 32
+  pub width-small : shape .width ≤ 4
+
+module _ {shape : Shape} (F : Small shape) where
+  pub pairs-small : shape .width * shape .counters ≤ 12
+  pairs-small = omega (arith, bounds-le (shape .width) (shape .counters) (F .counters-small), F .width-small)
+
+  pub moves-small : shape .actions * moveSize (shape .counters) ≤ 184
+  moves-small = moves-le (shape .counters) (shape .actions) (F .counters-small) (F .actions-small)
+
+  pub rows-small : (i z : ℕ) → i ≤ shape .regions → z ≡ regionSize (shape .width) (shape .counters) (shape .actions) → i * z ≤ 6752
+  rows-small i z h e =
+      let m = ap (λ (k : ℕ). i * k) e in
+      omega (arith, regions-le (shape .width) (shape .counters) (shape .actions) i (F .counters-small) (F .actions-small) (omega (arith, F .regions-small)), F .width-small)
 
 module _ {s : List ℕ} {shape : Shape} (R : Read s shape) where
   pub counters-limit : shape .counters ≤ 3
@@ -33,34 +54,48 @@ module _ {s : List ℕ} {shape : Shape} (R : Read s shape) where
   pub regions-limit : shape .regions ≤ 32
   regions-limit = omega (arith, R .shaped .regions-few, R .regions-are)
 
-  -- region i starts where the code says
-  pub region-rows : (i z : ℕ) → i ≤ shape .regions → z ≡ regionSize (shape .counters) (shape .actions) → i * z ≤ 6368
-  region-rows i z h e =
-      let k : z ≤ 199 = omega (arith, regionSize-le (shape .counters) (shape .actions) counters-limit actions-limit) in
-      let m = mul-le-mul-left i k in
-      omega (arith, regions-limit)
+  pub width-right : TwoOrFour (shape .width)
+  width-right = subst TwoOrFour (sym (R .width-is)) (two-or-four s)
 
-  pub region-read : (i z : ℕ) → z ≡ regionSize (shape .counters) (shape .actions) → 9 + 2 * shape .counters + i * z ≡ regionPlace s i
+  pub width-limit : (2 ≤ shape .width) × (shape .width ≤ 4)
+  width-limit = width-few (shape .width) width-right
+
+  pub small : Small shape
+  small = record { counters-small = counters-limit; actions-small = actions-limit; regions-small = regions-limit; width-small = width-limit .1 }
+
+  -- region i starts where the code says
+  pub region-read : (i p : ℕ) → p ≡ placeBy (shape .width) (shape .counters) (shape .actions) i → p ≡ regionPlace s i
   unfolding regionPlace
-  region-read i z e =
-      let a = R .counters-are in
-      let b = R .actions-are in
-      let d : z ≡ regionSize (countersOf s) (actionsOf s) = cc in
-      let m = ap (λ (k : ℕ). i * k) d in
+  region-read i p e =
+      e
+      ∙ ap (λ (n : ℕ). placeBy n (shape .counters) (shape .actions) i) (R .width-is)
+      ∙ ap (λ (n : ℕ). placeBy (boundSize s) n (shape .actions) i) (R .counters-are)
+      ∙ ap (λ (n : ℕ). placeBy (boundSize s) (countersOf s) n i) (R .actions-are)
+
+  -- the bounds of counter v stand where the code says, and lie within the sheet
+  pub pairs-limit : (v : ℕ) → v < shape .counters → shape .width * v ≤ 12
+  pairs-limit v h = omega (arith, bounds-le (shape .width) v (omega (arith, counters-limit)), width-limit .1)
+
+  pub low-read : (i v p : ℕ) → p ≡ regionPlace s i → p + 3 + 2 * shape .width * v ≡ lowPlace s i v
+  unfolding lowPlace
+  low-read i v p e =
+      let m = ap (λ (k : ℕ). k * v) (R .width-is) in
       omega arith
 
-  -- the bounds of counter v lie within the sheet
-  pub bounds-end : (i v p : ℕ) → i < shape .regions → v < shape .counters → p ≡ regionPlace s i → p + 3 + 4 * v + 4 ≤ length s
-  unfolding lowPlace highPlace
-  bounds-end i v p h k e =
-      omega (arith, bound-end s (R .shaped) i v (omega (arith, R .regions-are)) (omega (arith, R .counters-are)))
+  pub low-within : (i v : ℕ) → i < shape .regions → v < shape .counters → lowPlace s i v + 2 * shape .width ≤ length s
+  unfolding highPlace
+  low-within i v h k =
+      omega (arith, R .width-is, bound-end s (R .shaped) i v (omega (arith, R .regions-are)) (omega (arith, R .counters-are)))
 
-  pub sheet-short : length s ≤ 6383
+  pub sheet-short : length s ≤ 6773
   sheet-short = length-le s (R .shaped)
 
-  pub region-within : (i p : ℕ) → i < shape .regions → p ≡ regionPlace s i → p + 7 ≤ length s
+  pub region-within : (i p : ℕ) → i < shape .regions → p ≡ regionPlace s i → p + 3 + 2 * shape .width * shape .counters ≤ length s
   unfolding regionSize
-  region-within i p h e = omega (arith, region-end s (R .shaped) i (omega (arith, R .regions-are)), R .shaped .counters-some)
+  region-within i p h e =
+      let a = ap (λ (k : ℕ). k * shape .counters) (R .width-is) in
+      let b = ap (λ (k : ℕ). boundSize s * k) (R .counters-are) in
+      omega (arith, region-end s (R .shaped) i (omega (arith, R .regions-are)))
 
   -- the move record of action a stands where the code says, and lies within the sheet
   pub move-rows : (a m : ℕ) → a < shape .actions → m ≡ moveSize (shape .counters) → a * m ≤ 184
@@ -69,12 +104,14 @@ module _ {s : List ℕ} {shape : Shape} (R : Read s shape) where
       let l = mul-le-mul-left a k in
       omega (arith, actions-limit)
 
-  pub move-read : (i a p m : ℕ) → p ≡ regionPlace s i → m ≡ moveSize (shape .counters) → p + 3 + 4 * shape .counters + a * m ≡ movePlace s i a
+  pub move-read : (i a p m : ℕ) → p ≡ regionPlace s i → m ≡ moveSize (shape .counters) → p + 3 + 2 * shape .width * shape .counters + a * m ≡ movePlace s i a
   unfolding movePlace
   move-read i a p m e d =
       let b = R .counters-are in
       let f : m ≡ moveSize (countersOf s) = cc in
       let l = ap (λ (k : ℕ). a * k) f in
+      let g = ap (λ (k : ℕ). k * shape .counters) (R .width-is) in
+      let h = ap (λ (k : ℕ). boundSize s * k) b in
       omega arith
 
   pub move-within : (i a p : ℕ) → i < shape .regions → a < shape .actions → p ≡ movePlace s i a → p + moveSize (shape .counters) ≤ length s
@@ -83,22 +120,25 @@ module _ {s : List ℕ} {shape : Shape} (R : Read s shape) where
       let f : moveSize (shape .counters) ≡ moveSize (countersOf s) = cc in
       omega (arith, move-end s (R .shaped) i a (omega (arith, R .regions-are)) (omega (arith, R .actions-are)))
 
-  -- the start's values lie within the sheet
-  pub start-within : (v : ℕ) → v < shape .counters → 9 + 2 * v + 2 ≤ length s
-  start-within v h = omega (arith, header-end s (R .shaped), R .counters-are)
+  -- the start's values stand where the code says, and lie within the sheet
+  pub start-place : (v : ℕ) → 9 + shape .width * v ≡ startPlace s v
+  unfolding startPlace
+  start-place v = ap (λ (k : ℕ). 9 + k * v) (R .width-is)
+
+  pub start-within : (v : ℕ) → v < shape .counters → startPlace s v + shape .width ≤ length s
+  start-within v h = omega (arith, R .width-is, start-end s (R .shaped) v (omega (arith, R .counters-are)))
 
   pub header-within : 9 ≤ length s
   header-within = omega (arith, header-end s (R .shaped))
 
   -- what was read is what the definitions name
-  pub range-read : (i v p : ℕ) (l h : ℤ) → p ≡ regionPlace s i → l ≡ signedAt 2 s (p + 3 + 4 * v) → h ≡ signedAt 2 s (p + 3 + 4 * v + 2)
+  pub range-read : (i v p : ℕ) (l h : ℤ) → p ≡ lowPlace s i v → l ≡ signedAt (shape .width) s p → h ≡ signedAt (shape .width) s (p + shape .width)
       → _≡_ {A = Range} (record { low = l; high = h }) (rangeAt s i v)
-  unfolding rangeAt lowPlace highPlace
+  unfolding rangeAt highPlace
   range-read i v p l h e a b =
-      let q : p + 3 + 4 * v ≡ lowPlace s i v = omega arith in
-      let r : p + 3 + 4 * v + 2 ≡ highPlace s i v = omega arith in
-      let c : l ≡ signedAt 2 s (lowPlace s i v) = cc in
-      let d : h ≡ signedAt 2 s (highPlace s i v) = cc in
+      let w = R .width-is in
+      let c : l ≡ signedAt (boundSize s) s (lowPlace s i v) = cc in
+      let d : h ≡ signedAt (boundSize s) s (lowPlace s i v + boundSize s) = cc in
       λ j. record { low = c j; high = d j }
 
   pub box-read : (i p : ℕ) (a b c : Range) → p ≡ regionPlace s i
@@ -115,8 +155,11 @@ module _ {s : List ℕ} {shape : Shape} (R : Read s shape) where
       let w : c ≡ padded zeroRange (rangeAt s i) (countersOf s) 2 = cc in
       λ j. record { state = x j; ranges = record { first = y j; second = z j; third = w j } }
 
-  pub start-in : (v : ℕ) (z : ℤ) → v < shape .counters → z ≡ signedAt 2 s (9 + 2 * v) → z ≡ startPadded s v
+  pub start-value : (v p : ℕ) (z : ℤ) → p ≡ startPlace s v → z ≡ signedAt (shape .width) s p → z ≡ startValue s v
   unfolding startValue
+  start-value v p z d e = e ∙ ap (signedAt (shape .width) s) d ∙ ap (λ (n : ℕ). signedAt n s (startPlace s v)) (R .width-is)
+
+  pub start-in : (v : ℕ) (z : ℤ) → v < shape .counters → z ≡ startValue s v → z ≡ startPadded s v
   start-in v z h e = e ∙ sym (padded-in (pos 0) (startValue s) (countersOf s) v (omega (arith, R .counters-are)))
 
   pub start-out : (v : ℕ) → shape .counters ≤ v → pos 0 ≡ startPadded s v
@@ -133,6 +176,35 @@ rest k p = take-all (length p - k) (drop k p) (omega (arith, length-drop k p))
 
 pub length-rest : (k n : ℕ) (p : List ℕ) → k + n ≤ length p → n ≤ length (take (length p - k) (drop k p))
 length-rest k n p h = rw (rest k p) (omega (arith, length-drop k p))
+
+-- a bound by its width
+pub bound-of : (m n : ℕ) (s : List ℕ) (at : ℕ) {z : ℤ} → n ≡ m → z ≡ signedAt m s at → z ≡ signedAt n s at
+bound-of m n s at e h = h ∙ ap (λ (k : ℕ). signedAt k s at) (sym e)
+
+pub not-two : (n : ℕ) → TwoOrFour n → (n ≡ 2 → ⊥) → n ≡ 4
+not-two n (inl e) h = absurd (h e)
+not-two n (inr e) h = e
+
+pub not-four : (n : ℕ) → TwoOrFour n → (n ≡ 4 → ⊥) → n ≡ 2
+not-four n (inl e) h = e
+not-four n (inr e) h = absurd (h e)
+
+-- what the version decides
+pub size-wide : (s : List ℕ) → wide s ≡ true → 4 ≡ boundSize s
+unfolding boundSize
+size-wide s e = rw (e, boundSize) refl
+
+pub size-narrow : (s : List ℕ) → wide s ≡ false → 2 ≡ boundSize s
+unfolding boundSize
+size-narrow s e = rw (e, boundSize) refl
+
+pub limit-wide : (s : List ℕ) → wide s ≡ true → 200000000 ≡ offsetLimit s
+unfolding offsetLimit
+limit-wide s e = rw (e, offsetLimit) refl
+
+pub limit-narrow : (s : List ℕ) → wide s ≡ false → 4000000 ≡ offsetLimit s
+unfolding offsetLimit
+limit-narrow s e = rw (e, offsetLimit) refl
 
 -- a rule by its kind
 pub rule-set : (p : List ℕ) (o : ℤ) → kindOf p ≡ 0 → o ≡ signedAt 4 p 3 → Set o ≡ ruleOf p

@@ -23,20 +23,21 @@ use Rattle.sheet_bytes.specs.declared.Move.{Move}
 use Rattle.sheet_bytes.specs.declared.Move.the-variants.{Barred, Open}
 use Rattle.sheet_bytes.specs.declared.Rules.{Rules}
 use Rattle.sheet_bytes.specs.declared.RegionMove.{RegionMove}
-use Rattle.sheet_bytes.specs.Layout.{countersOf, actionsOf, regionsOf, startState, startValue, stateAt, kindOf}
+use Rattle.sheet_bytes.specs.Layout.{countersOf, actionsOf, regionsOf, boundSize, startState, startValue, stateAt, kindOf}
 use Rattle.sheet_bytes.specs.Decode.{listed, rangeAt, boxAt, ruleAt, moveOf, startOf}
 use Rattle.sheet_bytes.specs.Shape.{Shaped}
 
--- the counts of a sheet, in the code's struct
+-- the counts of a sheet and the width of its bounds, in the code's struct
 abbrev pub shapeOf : List ℕ → Shape
-shapeOf s = record { counters = countersOf s; actions = actionsOf s; regions = regionsOf s }
+shapeOf s = record { counters = countersOf s; actions = actionsOf s; regions = regionsOf s; width = boundSize s }
 
--- what readers of a sheet's fields are given: a sheet that passed checks 1 to 3, and its counts
+-- what readers of a sheet's fields are given: a sheet that passed checks 1 to 3, and its shape
 pub record Read (s : List ℕ) (shape : Shape) : Type 0 where
   pub shaped : Shaped s
   pub counters-are : shape .counters ≡ countersOf s
   pub actions-are : shape .actions ≡ actionsOf s
   pub regions-are : shape .regions ≡ regionsOf s
+  pub width-is : shape .width ≡ boundSize s
 
 -- the first n of three
 unfoldable pub firsts : {A : Type 0} → ℕ → A → A → A → List A

@@ -1,9 +1,12 @@
 // The fields of a sheet that passed checks 1 to 3, read from its bytes.
 ghost use mathlib.Core.Path.{_≡_};
-ghost use Prim.Native.Nat.{_<_, _≤_};
+ghost use Prim.Native.Nat.{_+_, _<_, _≤_};
 ghost use lib.ListN.{length};
-ghost use Rattle.sheet_bytes.specs.Layout.{countersOf, moveSize, regionSize, regionPlace, labelAt, stateAt, movePlace, movePart};
+ghost use Rattle.integers.specs.LittleEndian.{signedAt};
+ghost use Rattle.sheet_bytes.specs.Layout.{countersOf, wide, boundSize, offsetLimit, moveSize, regionSize, placeBy, startPlace, startValue, regionPlace, labelAt, stateAt, lowPlace, movePlace, movePart};
 ghost use Rattle.sheet_bytes.specs.Decode.{rangeAt, ruleOf, ruleAt};
+ghost use Rattle.sheet_bytes.specs.Shape.{TwoOrFour};
+ghost use Rattle.sheet_bytes.specs.Fields.{Small};
 ghost use Rattle.sheet_bytes.specs.Three.{Read, shapeOf, padded, zeroRange, zeroRule, boxThree, startThree, startPadded, moveThree};
 use crate::Config;
 use crate::Move;
@@ -20,7 +23,31 @@ use integers::bytes::signed32;
 use integers::bytes::unsigned16;
 use model::Rule;
 
-// The sheet's counts.
+// Whether the sheet is wide, that is of version 2.
+fn is_wide(s: &[u8]) -> bool
+    requires { ⌜ 9 ≤ length (now s) ⌝ }
+    ensures { λ r. ⌜ r ≡ wide (now (s .entry)) ⌝ }
+{
+    unsigned16(s, 3) == 2
+}
+
+// How many bytes a bound or a start value takes.
+fn bound_size(s: &[u8]) -> usize
+    requires { ⌜ 9 ≤ length (now s) ⌝ }
+    ensures { λ r. ⌜ r ≡ boundSize (now (s .entry)) ⌝ }
+{
+    if is_wide(s) { 4 } else { 2 }
+}
+
+// How far from zero an offset may be.
+pub fn offset_limit(s: &[u8]) -> u32
+    requires { ⌜ 9 ≤ length (now s) ⌝ }
+    ensures { λ r. ⌜ r ≡ offsetLimit (now (s .entry)) ⌝ }
+{
+    if is_wide(s) { 200000000 } else { 4000000 }
+}
+
+// The sheet's counts, and how wide its bounds are.
 pub fn shape_of(s: &[u8]) -> Shape
     requires { ⌜ 9 ≤ length (now s) ⌝ }
     ensures { λ r. ⌜ r ≡ shapeOf (now (s .entry)) ⌝ }
@@ -29,6 +56,7 @@ pub fn shape_of(s: &[u8]) -> Shape
         counters: s[5] as usize,
         actions: s[6] as usize,
         regions: s[7] as usize,
+        width: bound_size(s),
     }
 }
 
@@ -41,11 +69,20 @@ pub fn move_size(counters: usize) -> usize
 }
 
 // How many bytes a region record takes.
-pub fn region_size(counters: usize, actions: usize) -> usize
-    requires { ⌜ (counters ≤ 3) × (actions ≤ 8) ⌝ }
-    ensures { λ r. ⌜ r ≡ regionSize counters actions ⌝ }
+fn region_size(shape: Shape) -> usize
+    requires { ⌜ Small shape ⌝ }
+    ensures { λ r. ⌜ r ≡ regionSize (shape .width) (shape .counters) (shape .actions) ⌝ }
 {
-    3 + 4 * counters + actions * move_size(counters)
+    3 + 2 * shape.width * shape.counters + shape.actions * move_size(shape.counters)
+}
+
+// Where region i begins in a sheet of this shape.
+pub fn place_by(shape: Shape, i: usize) -> usize
+    requires { ⌜ Small shape ⌝ }
+    requires { ⌜ i ≤ shape .regions ⌝ }
+    ensures { λ r. ⌜ r ≡ placeBy (shape .width) (shape .counters) (shape .actions) i ⌝ }
+{
+    9 + shape.width * shape.counters + i * region_size(shape)
 }
 
 // Where region i begins; past the last one, the length of the sheet.
@@ -54,7 +91,7 @@ pub fn region_place(s: &[u8], shape: Shape, i: usize) -> usize
     requires { ⌜ i ≤ shape .regions ⌝ }
     ensures { λ r. ⌜ r ≡ regionPlace (now (s .entry)) i ⌝ }
 {
-    9 + 2 * shape.counters + i * region_size(shape.counters, shape.actions)
+    place_by(shape, i)
 }
 
 // Where the move record of action a stands in region i.
@@ -63,7 +100,7 @@ pub fn move_place(s: &[u8], shape: Shape, i: usize, a: usize) -> usize
     requires { ⌜ (i < shape .regions) × (a < shape .actions) ⌝ }
     ensures { λ r. ⌜ r ≡ movePlace (now (s .entry)) i a ⌝ }
 {
-    region_place(s, shape, i) + 3 + 4 * shape.counters + a * move_size(shape.counters)
+    region_place(s, shape, i) + 3 + 2 * shape.width * shape.counters + a * move_size(shape.counters)
 }
 
 // The label of region i.
@@ -85,15 +122,36 @@ pub fn state_at(s: &[u8], shape: Shape, i: usize) -> u8
     s[at]
 }
 
+// A bound or a start value, of 2 or 4 bytes.
+fn bound_at(s: &[u8], width: usize, at: usize) -> i64
+    requires { ⌜ TwoOrFour width ⌝ }
+    requires { ⌜ at + width ≤ length (now s) ⌝ }
+    ensures { λ r. ⌜ r ≡ signedAt width (now (s .entry)) at ⌝ }
+{
+    if width == 2 {
+        return signed16(s, at);
+    }
+    signed32(s, at)
+}
+
+// Where counter v's low bound stands in region i; the high one stands behind it.
+pub fn low_place(s: &[u8], shape: Shape, i: usize, v: usize) -> usize
+    requires { ⌜ Read (now s) shape ⌝ }
+    requires { ⌜ (i < shape .regions) × (v < shape .counters) ⌝ }
+    ensures { λ r. ⌜ r ≡ lowPlace (now (s .entry)) i v ⌝ }
+{
+    region_place(s, shape, i) + 3 + 2 * shape.width * v
+}
+
 // Counter v's range in region i.
 pub fn range_at(s: &[u8], shape: Shape, i: usize, v: usize) -> Range
     requires { ⌜ Read (now s) shape ⌝ }
     requires { ⌜ (i < shape .regions) × (v < shape .counters) ⌝ }
     ensures { λ r. ⌜ r ≡ rangeAt (now (s .entry)) i v ⌝ }
 {
-    let at = region_place(s, shape, i) + 3 + 4 * v;
-    let low = signed16(s, at);
-    let high = signed16(s, at + 2);
+    let at = low_place(s, shape, i, v);
+    let low = bound_at(s, shape.width, at);
+    let high = bound_at(s, shape.width, at + shape.width);
     Range { low, high }
 }
 
@@ -128,13 +186,31 @@ pub fn box_at(s: &[u8], shape: Shape, i: usize) -> RegionBox
     }
 }
 
-// The start value of counter v, and 0 for a counter that the sheet lacks.
+// Where the start value of counter v stands.
+pub fn start_place(s: &[u8], shape: Shape, v: usize) -> usize
+    requires { ⌜ Read (now s) shape ⌝ }
+    requires { ⌜ v < shape .counters ⌝ }
+    ensures { λ r. ⌜ r ≡ startPlace (now (s .entry)) v ⌝ }
+{
+    9 + shape.width * v
+}
+
+// The start value of counter v.
+pub fn start_value(s: &[u8], shape: Shape, v: usize) -> i64
+    requires { ⌜ Read (now s) shape ⌝ }
+    requires { ⌜ v < shape .counters ⌝ }
+    ensures { λ r. ⌜ r ≡ startValue (now (s .entry)) v ⌝ }
+{
+    bound_at(s, shape.width, start_place(s, shape, v))
+}
+
+// The same, and 0 for a counter that the sheet lacks.
 pub fn start_or_zero(s: &[u8], shape: Shape, v: usize) -> i64
     requires { ⌜ Read (now s) shape ⌝ }
     ensures { λ r. ⌜ r ≡ startPadded (now (s .entry)) v ⌝ }
 {
     if v < shape.counters {
-        signed16(s, 9 + 2 * v)
+        start_value(s, shape, v)
     } else {
         0
     }

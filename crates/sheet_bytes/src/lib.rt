@@ -1,5 +1,5 @@
-// The bytes of a sheet (document 01, "The sheet, mark MSH"), read into structs of three counters; and what is done with these: membership,
-// landing a configuration, cutting a box.
+// The bytes of a sheet of either version (document 01, "The sheet, mark MSH"; document 02, U4), read into structs of three counters; and what
+// is done with these: membership, landing a configuration, cutting a box.
 // Internal: serves sister crates; a function may ask what its callers have made sure of.
 use integers::Range;
 use model::Rule;
@@ -8,11 +8,12 @@ pub mod cutting;
 pub mod fields;
 pub mod space;
 
-// The three counts of a sheet: V, A and R.
+// What decides where the fields of a sheet stand: the three counts V, A and R, and how many bytes a bound takes.
 pub struct Shape {
     pub counters: usize,
     pub actions: usize,
     pub regions: usize,
+    pub width: usize,
 }
 
 // A range for each counter. One that the sheet lacks has 0..0.

@@ -10,7 +10,7 @@ use lib.Signed.{leZ}
 use Rattle.integers.specs.Range.{contains}
 use Rattle.answers.specs.declared.Checked.{Checked}
 use Rattle.answers.specs.Stages.{andThen, demand, each}
-use Rattle.sheet_bytes.specs.Layout.{sheetMark, countersOf, actionsOf, regionsOf, regionPlace, labelAt, highPlace, movePlace, movePart, rulePlace, kindOf, sourceOf, factorOf, offsetOf}
+use Rattle.sheet_bytes.specs.Layout.{sheetMark, versionOf, offsetLimit, countersOf, actionsOf, regionsOf, startPlace, startValue, regionPlace, labelAt, lowPlace, highPlace, movePlace, movePart, rulePlace, kindOf, sourceOf, factorOf, offsetOf}
 use Rattle.sheet_bytes.specs.Decode.{rangeAt}
 
 -- the bytes of two lists are the same
@@ -28,9 +28,9 @@ from-to m n x = leb m x && leb x n
 abbrev pub near : ℕ → ℤ → Bool
 near n z = contains (record { low = negℤ (pos n); high = pos n }) z
 
--- 1: fewer bytes than the fixed header, or wrong mark or version
+-- 1: fewer bytes than the fixed header, or wrong mark or version: versions are 1 and 2
 unfoldable pub checkHeader : List ℕ → Checked
-checkHeader s = demand (leb 9 (length s) && sameBytes (take 5 s) sheetMark) 1 0
+checkHeader s = demand (leb 9 (length s) && (sameBytes (take 3 s) sheetMark && from-to 1 2 (versionOf s))) 1 0
 
 -- 2: the first count outside its limits
 unfoldable pub checkCounts : List ℕ → Checked
@@ -42,13 +42,28 @@ checkCounts s =
 unfoldable pub checkLength : List ℕ → Checked
 checkLength s = demand (eqb (length s) (regionPlace s (regionsOf s))) 3 (length s)
 
--- 4, the rule at place at, in an open move: the fields in file order
-unfoldable pub checkRule : ℕ → List ℕ → ℕ → Checked
-checkRule V# p at =
+-- how far from zero a bound or a start value may be. One of 16 bits, as in version 1, always is that near.
+abbrev pub valueLimit : ℕ
+valueLimit = 1000000
+
+-- 4, the start value of counter v
+unfoldable pub checkValue : List ℕ → ℕ → Checked
+checkValue s v = demand (near valueLimit (startValue s v)) 4 (startPlace s v)
+
+-- 4, counter v in region i: low or high outside its limits, then low above high, which is told at the place of high
+unfoldable pub checkBound : List ℕ → ℕ → ℕ → Checked
+checkBound s i v =
+    andThen (demand (near valueLimit (rangeAt s i v .low)) 4 (lowPlace s i v))
+    (andThen (demand (near valueLimit (rangeAt s i v .high)) 4 (highPlace s i v))
+    (demand (leZ (rangeAt s i v .low) (rangeAt s i v .high)) 4 (highPlace s i v)))
+
+-- 4, the rule at place at, in an open move: the fields in file order, the offset at most so far from zero
+unfoldable pub checkRule : ℕ → ℕ → List ℕ → ℕ → Checked
+checkRule V# most p at =
     andThen (demand (leb (kindOf p) 1) 4 at)
     (andThen (demand (elim (eqb (kindOf p) 0) [ true ↦ eqb (sourceOf p) 0 | false ↦ ltb (sourceOf p) V# ]) 4 (at + 1))
     (andThen (demand (elim (eqb (kindOf p) 0) [ true ↦ near 0 (factorOf p) | false ↦ near 100 (factorOf p) && not (near 0 (factorOf p)) ]) 4 (at + 2))
-    (demand (near 4000000 (offsetOf p)) 4 (at + 3))))
+    (demand (near most (offsetOf p)) 4 (at + 3))))
 
 -- 4, the rule at place at, in a barred move: every field is zero
 unfoldable pub checkZeroRule : List ℕ → ℕ → Checked
@@ -57,17 +72,21 @@ checkZeroRule p at =
     (andThen (demand (eqb (sourceOf p) 0) 4 (at + 1)) (andThen (demand (near 0 (factorOf p)) 4 (at + 2)) (demand (near 0 (offsetOf p)) 4 (at + 3))))
 
 -- 4, the move record at place at
-unfoldable pub checkMove : ℕ → List ℕ → ℕ → Checked
-checkMove V# p at =
+unfoldable pub checkMove : ℕ → ℕ → List ℕ → ℕ → Checked
+checkMove V# most p at =
     andThen (demand (leb (kindOf p) 1) 4 at)
     (elim (eqb (kindOf p) 0) [
       | true ↦ andThen (demand (eqb (getD p 1 0) 0) 4 (at + 1)) (each (λ v. checkZeroRule (drop (rulePlace v) p) (at + rulePlace v)) V#)
-      | false ↦ each (λ v. checkRule V# (drop (rulePlace v) p) (at + rulePlace v)) V#
+      | false ↦ each (λ v. checkRule V# most (drop (rulePlace v) p) (at + rulePlace v)) V#
     ])
 
--- 4, region i: the label 65,535, low above high, then the moves
+-- 4, region i: the label 65,535, the bounds, then the moves
 unfoldable pub checkFields : List ℕ → ℕ → Checked
 checkFields s i =
     andThen (demand (ltb (labelAt s i) 65535) 4 (regionPlace s i))
-    (andThen (each (λ v. demand (leZ (rangeAt s i v .low) (rangeAt s i v .high)) 4 (highPlace s i v)) (countersOf s))
-    (each (λ a. checkMove (countersOf s) (movePart s i a) (movePlace s i a)) (actionsOf s)))
+    (andThen (each (checkBound s i) (countersOf s))
+    (each (λ a. checkMove (countersOf s) (offsetLimit s) (movePart s i a) (movePlace s i a)) (actionsOf s)))
+
+-- 4: the start values, then the regions
+unfoldable pub checkLimits : List ℕ → Checked
+checkLimits s = andThen (each (checkValue s) (countersOf s)) (each (checkFields s) (regionsOf s))

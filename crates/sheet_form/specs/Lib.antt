@@ -2,3 +2,4 @@ pub mod Form
 pub mod Header
 pub mod Limits
 pub mod Fits
+pub mod Version1

@@ -2,7 +2,7 @@
 use mathlib.Core.Path.{_≡_, refl, sym, ap, _∙_}
 use mathlib.Core.Bool.{Bool, true, false, _&&_, not}
 use mathlib.Core.List.{List}
-use Prim.Native.Nat.{ℕ, _+_, _*_, _-_}
+use Prim.Native.Nat.{ℕ, _+_, _-_}
 use native.Mathlib.Omega.{arith}
 use lib.Dec.{eqb, ltb, leb}
 use lib.ListN.{length, getD, take, drop}
@@ -18,11 +18,11 @@ use Rattle.answers.specs.declared.Checked.{Checked}
 use Rattle.answers.specs.declared.Checked.the-variants.{Fine}
 use Rattle.answers.specs.Stages.{andThen, demand, each}
 use Rattle.sheet_bytes.specs.declared.Shape.{Shape}
-use Rattle.sheet_bytes.specs.Layout.{countersOf, actionsOf, kindOf, sourceOf, factorOf, offsetOf, rulePlace, regionPlace, lowPlace, highPlace, movePlace, movePart}
+use Rattle.sheet_bytes.specs.Layout.{offsetLimit, countersOf, actionsOf, kindOf, sourceOf, factorOf, offsetOf, rulePlace, startPlace, startValue, lowPlace, highPlace, movePlace, movePart}
 use Rattle.sheet_bytes.specs.Decode.{rangeAt}
 use Rattle.sheet_bytes.specs.Three.{Read}
 use Rattle.sheet_bytes.specs.Fields.{rest}
-use Rattle.sheet_form.specs.Form.{near, checkRule, checkZeroRule, checkMove}
+use Rattle.sheet_form.specs.Form.{near, valueLimit, checkValue, checkRule, checkZeroRule, checkMove}
 
 -- the tests of a rule's source and factor
 unfoldable pub sourceRight : ℕ → List ℕ → Bool
@@ -32,19 +32,16 @@ unfoldable pub factorRight : List ℕ → Bool
 factorRight p = elim (eqb (kindOf p) 0) [ true ↦ near 0 (factorOf p) | false ↦ near 100 (factorOf p) && not (near 0 (factorOf p)) ]
 
 -- the rule of counter v, by the kind of its move
-unfoldable pub checkOne : ℕ → List ℕ → ℕ → ℕ → Checked
-checkOne V# p at v =
+unfoldable pub checkOne : ℕ → ℕ → List ℕ → ℕ → ℕ → Checked
+checkOne V# most p at v =
     elim (eqb (kindOf p) 0) [
       | true ↦ checkZeroRule (drop (rulePlace v) p) (at + rulePlace v)
-      | false ↦ checkRule V# (drop (rulePlace v) p) (at + rulePlace v)
+      | false ↦ checkRule V# most (drop (rulePlace v) p) (at + rulePlace v)
     ]
 
--- the bounds and the moves of a region
-unfoldable pub checkBounds : List ℕ → ℕ → Checked
-checkBounds s i = each (λ v. demand (leZ (rangeAt s i v .low) (rangeAt s i v .high)) 4 (highPlace s i v)) (countersOf s)
-
+-- the moves of a region
 unfoldable pub checkMoves : List ℕ → ℕ → Checked
-checkMoves s i = each (λ a. checkMove (countersOf s) (movePart s i a) (movePlace s i a)) (actionsOf s)
+checkMoves s i = each (λ a. checkMove (countersOf s) (offsetLimit s) (movePart s i a) (movePlace s i a)) (actionsOf s)
 
 -- tests by kind
 pub source-set : (V# : ℕ) (p : List ℕ) → kindOf p ≡ 0 → eqb (sourceOf p) 0 ≡ sourceRight V# p
@@ -75,30 +72,30 @@ factor-carry p h e k l = rw (ne-eqb (kindOf p) 0 e, factorRight, sym h ∙ k) (l
     and-true true = refl
     and-true false = refl
 
-pub one-zero : (V# : ℕ) (p : List ℕ) (at v : ℕ) → kindOf p ≡ 0 → checkZeroRule (drop (rulePlace v) p) (at + rulePlace v) ≡ checkOne V# p at v
+pub one-zero : (V# most : ℕ) (p : List ℕ) (at v : ℕ) → kindOf p ≡ 0 → checkZeroRule (drop (rulePlace v) p) (at + rulePlace v) ≡ checkOne V# most p at v
 unfolding checkOne
-one-zero V# p at v e = rw (eq-eqb (kindOf p) 0 e, checkOne) refl
+one-zero V# most p at v e = rw (eq-eqb (kindOf p) 0 e, checkOne) refl
 
-pub one-open : (V# : ℕ) (p : List ℕ) (at v : ℕ) → (kindOf p ≡ 0 → ⊥) → checkRule V# (drop (rulePlace v) p) (at + rulePlace v) ≡ checkOne V# p at v
+pub one-open : (V# most : ℕ) (p : List ℕ) (at v : ℕ) → (kindOf p ≡ 0 → ⊥) → checkRule V# most (drop (rulePlace v) p) (at + rulePlace v) ≡ checkOne V# most p at v
 unfolding checkOne
-one-open V# p at v e = rw (ne-eqb (kindOf p) 0 e, checkOne) refl
+one-open V# most p at v e = rw (ne-eqb (kindOf p) 0 e, checkOne) refl
 
 -- a move by its kind
-pub move-zero : (V# : ℕ) (p : List ℕ) (at : ℕ) → kindOf p ≡ 0
-    → andThen (demand (leb (kindOf p) 1) 4 at) (andThen (demand (eqb (getD p 1 0) 0) 4 (at + 1)) (each (checkOne V# p at) V#)) ≡ checkMove V# p at
+pub move-zero : (V# most : ℕ) (p : List ℕ) (at : ℕ) → kindOf p ≡ 0
+    → andThen (demand (leb (kindOf p) 1) 4 at) (andThen (demand (eqb (getD p 1 0) 0) 4 (at + 1)) (each (checkOne V# most p at) V#)) ≡ checkMove V# most p at
 unfolding checkMove
-move-zero V# p at e =
+move-zero V# most p at e =
     rw (eq-eqb (kindOf p) 0 e, checkMove)
     (ap (λ (c : Checked). andThen (demand (leb (kindOf p) 1) 4 at) (andThen (demand (eqb (getD p 1 0) 0) 4 (at + 1)) c))
-    (run-ext Fine andThen (checkOne V# p at) (λ v. checkZeroRule (drop (rulePlace v) p) (at + rulePlace v)) V# (λ v h. sym (one-zero V# p at v e))))
+    (run-ext Fine andThen (checkOne V# most p at) (λ v. checkZeroRule (drop (rulePlace v) p) (at + rulePlace v)) V# (λ v h. sym (one-zero V# most p at v e))))
 
-pub move-open : (V# : ℕ) (p : List ℕ) (at : ℕ) → (kindOf p ≡ 0 → ⊥)
-    → andThen (demand (leb (kindOf p) 1) 4 at) (each (checkOne V# p at) V#) ≡ checkMove V# p at
+pub move-open : (V# most : ℕ) (p : List ℕ) (at : ℕ) → (kindOf p ≡ 0 → ⊥)
+    → andThen (demand (leb (kindOf p) 1) 4 at) (each (checkOne V# most p at) V#) ≡ checkMove V# most p at
 unfolding checkMove
-move-open V# p at e =
+move-open V# most p at e =
     rw (ne-eqb (kindOf p) 0 e, checkMove)
     (ap (λ (c : Checked). andThen (demand (leb (kindOf p) 1) 4 at) c)
-    (run-ext Fine andThen (checkOne V# p at) (λ v. checkRule V# (drop (rulePlace v) p) (at + rulePlace v)) V# (λ v h. sym (one-open V# p at v e))))
+    (run-ext Fine andThen (checkOne V# most p at) (λ v. checkRule V# most (drop (rulePlace v) p) (at + rulePlace v)) V# (λ v h. sym (one-open V# most p at v e))))
 
 -- a range from minus n to n, as the machine makes it
 pub near-by : (n : ℕ) (z : ℤ) {t : Bool} → t ≡ contains (record { low = pos 0 -ℤ pos n; high = pos n }) z → t ≡ near n z
@@ -113,24 +110,38 @@ pub offset-read : (p : List ℕ) (n : ℕ) {t : Bool} {z : ℤ} → t ≡ near n
 unfolding offsetOf
 offset-read p n h e = h ∙ ap (near n) e
 
--- one counter's bounds, as the code tests them
-unfoldable pub checkBound : List ℕ → ℕ → ℕ → Checked
-checkBound s i v = demand (leZ (rangeAt s i v .low) (rangeAt s i v .high)) 4 (highPlace s i v)
+-- a start value, and the bounds of a counter, stage by stage as the code tests them
+pub value-stage : (s : List ℕ) (v p : ℕ) {z : ℤ} {t : Bool} {r : Checked} → z ≡ startValue s v → t ≡ near valueLimit z → p ≡ startPlace s v → r ≡ demand t 4 p → r ≡ checkValue s v
+unfolding checkValue
+value-stage s v p {z} {t} e h d k =
+    k ∙ ap (λ (p : ℕ). demand t 4 p) d ∙ ap (λ (t : Bool). demand t 4 (startPlace s v)) (h ∙ ap (near valueLimit) e)
 
-pub bound-read : (s : List ℕ) (i v p : ℕ) {r : Checked} {q : Range} → p ≡ regionPlace s i → q ≡ rangeAt s i v → r ≡ demand (leZ (q .low) (q .high)) 4 (p + (5 + 4 * v)) → r ≡ checkBound s i v
-unfolding checkBound highPlace lowPlace
-bound-read s i v p {r} {q} e h k =
-    let place : p + (5 + 4 * v) ≡ regionPlace s i + 3 + 4 * v + 2 = omega arith in
-    k ∙ ap (λ (z : ℕ). demand (leZ (q .low) (q .high)) 4 z) place ∙ ap (λ (x : Range). demand (leZ (x .low) (x .high)) 4 (regionPlace s i + 3 + 4 * v + 2)) h
+module _ {s : List ℕ} {shape : Shape} (R : Read s shape) where
+  module _ (i v p : ℕ) {q : Range} (e : p ≡ lowPlace s i v) (f : q ≡ rangeAt s i v) where
+    high-there : p + shape .width ≡ highPlace s i v
+    unfolding highPlace
+    high-there = omega (arith, R .width-is)
+
+    pub low-stage : {t : Bool} {r : Checked} → t ≡ near valueLimit (q .low) → r ≡ demand t 4 p → r ≡ demand (near valueLimit (rangeAt s i v .low)) 4 (lowPlace s i v)
+    low-stage {t} h k = k ∙ ap (λ (x : ℕ). demand t 4 x) e ∙ ap (λ (t : Bool). demand t 4 (lowPlace s i v)) (h ∙ ap (λ (x : Range). near valueLimit (x .low)) f)
+
+    pub high-stage : {t : Bool} {r : Checked} → t ≡ near valueLimit (q .high) → r ≡ demand t 4 (p + shape .width)
+        → r ≡ demand (near valueLimit (rangeAt s i v .high)) 4 (highPlace s i v)
+    high-stage {t} h k = k ∙ ap (λ (x : ℕ). demand t 4 x) high-there ∙ ap (λ (t : Bool). demand t 4 (highPlace s i v)) (h ∙ ap (λ (x : Range). near valueLimit (x .high)) f)
+
+    pub order-stage : {r : Checked} → r ≡ demand (leZ (q .low) (q .high)) 4 (p + shape .width)
+        → r ≡ demand (leZ (rangeAt s i v .low) (rangeAt s i v .high)) 4 (highPlace s i v)
+    order-stage k = k ∙ ap (λ (x : ℕ). demand (leZ (q .low) (q .high)) 4 x) high-there ∙ ap (λ (x : Range). demand (leZ (x .low) (x .high)) 4 (highPlace s i v)) f
 
 -- the check of a move record, as the code reads it from a part of the sheet
 abbrev pub moveChecked : List ℕ → ℕ → ℕ → Checked
-moveChecked s i a = checkMove (countersOf s) (movePart s i a) (movePlace s i a)
+moveChecked s i a = checkMove (countersOf s) (offsetLimit s) (movePart s i a) (movePlace s i a)
 
-pub move-checked : {s : List ℕ} {shape : Shape} (R : Read s shape) (i a p : ℕ) {r : Checked} → p ≡ movePlace s i a
-    → r ≡ checkMove (shape .counters) (take (length s - p) (drop p s)) p → r ≡ moveChecked s i a
-move-checked {s} {shape} R i a p e h =
+pub move-checked : {s : List ℕ} {shape : Shape} (R : Read s shape) (i a p most : ℕ) {r : Checked} → p ≡ movePlace s i a → most ≡ offsetLimit s
+    → r ≡ checkMove (shape .counters) most (take (length s - p) (drop p s)) p → r ≡ moveChecked s i a
+move-checked {s} {shape} R i a p most e o h =
     h
-    ∙ ap (λ (l : List ℕ). checkMove (shape .counters) l p) (rest p s)
-    ∙ ap (λ (n : ℕ). checkMove n (drop p s) p) (R .counters-are)
-    ∙ ap (λ (k : ℕ). checkMove (countersOf s) (drop k s) k) e
+    ∙ ap (λ (l : List ℕ). checkMove (shape .counters) most l p) (rest p s)
+    ∙ ap (λ (n : ℕ). checkMove n most (drop p s) p) (R .counters-are)
+    ∙ ap (λ (n : ℕ). checkMove (countersOf s) n (drop p s) p) o
+    ∙ ap (λ (k : ℕ). checkMove (countersOf s) (offsetLimit s) (drop k s) k) e

@@ -3,10 +3,10 @@ ghost use mathlib.Core.Path.{_≡_};
 ghost use Prim.Native.Nat.{_+_, _*_, _<_, _≤_};
 ghost use lib.ListN.{length};
 ghost use Rattle.answers.specs.Stages.{each};
-ghost use Rattle.sheet_bytes.specs.Layout.{regionsOf, moveSize};
+ghost use Rattle.sheet_bytes.specs.Layout.{countersOf, regionsOf, moveSize};
 ghost use Rattle.sheet_bytes.specs.Three.{Read};
-ghost use Rattle.sheet_form.specs.Form.{near, checkRule, checkZeroRule, checkMove, checkFields};
-ghost use Rattle.sheet_form.specs.Limits.{sourceRight, factorRight, checkOne, checkBounds, checkMoves};
+ghost use Rattle.sheet_form.specs.Form.{near, checkValue, checkBound, checkRule, checkZeroRule, checkMove, checkFields, checkLimits};
+ghost use Rattle.sheet_form.specs.Limits.{sourceRight, factorRight, checkOne, checkMoves};
 use answers::Checked;
 use answers::demanded;
 use integers::Range;
@@ -15,9 +15,13 @@ use integers::bytes::signed32;
 use integers::ranges::has;
 use sheet_bytes::Shape;
 use sheet_bytes::fields::label_at;
+use sheet_bytes::fields::low_place;
 use sheet_bytes::fields::move_place;
+use sheet_bytes::fields::offset_limit;
 use sheet_bytes::fields::range_at;
 use sheet_bytes::fields::region_place;
+use sheet_bytes::fields::start_place;
+use sheet_bytes::fields::start_value;
 
 // Whether z is within n of zero.
 fn near_zero(z: i64, n: u32) -> bool
@@ -57,11 +61,11 @@ fn factor_right(part: &[u8]) -> bool
     near_zero(factor, 100)
 }
 
-// A rule of an open move, from the part that starts with it, which stands at a place of the sheet.
-fn check_rule(part: &[u8], counters: usize, at: usize) -> Checked
+// A rule of an open move, from the part that starts with it, which stands at a place of the sheet. Its offset is at most so far from zero.
+fn check_rule(part: &[u8], counters: usize, most: u32, at: usize) -> Checked
     requires { ⌜ 7 ≤ length (now part) ⌝ }
     requires { ⌜ at < 10000 ⌝ }
-    ensures { λ r. ⌜ r ≡ checkRule counters (now (part .entry)) at ⌝ }
+    ensures { λ r. ⌜ r ≡ checkRule counters most (now (part .entry)) at ⌝ }
 {
     let kind = demanded(part[0] <= 1, 4, at);
     let Checked::Fine = kind else {
@@ -75,7 +79,7 @@ fn check_rule(part: &[u8], counters: usize, at: usize) -> Checked
     let Checked::Fine = factor else {
         return factor;
     };
-    demanded(near_zero(signed32(part, 3), 4000000), 4, at + 3)
+    demanded(near_zero(signed32(part, 3), most), 4, at + 3)
 }
 
 // A rule of a barred move: every field is zero.
@@ -100,26 +104,26 @@ fn check_zero_rule(part: &[u8], at: usize) -> Checked
 }
 
 // The rule of counter v, from the part that starts with its move record.
-fn check_one(part: &[u8], counters: usize, at: usize, v: usize) -> Checked
+fn check_one(part: &[u8], counters: usize, most: u32, at: usize, v: usize) -> Checked
     requires { ⌜ (counters ≤ 3) × (moveSize counters ≤ length (now part)) ⌝ }
     requires { ⌜ (at < 9000) × (v < counters) ⌝ }
-    ensures { λ r. ⌜ r ≡ checkOne counters (now (part .entry)) at v ⌝ }
+    ensures { λ r. ⌜ r ≡ checkOne counters most (now (part .entry)) at v ⌝ }
 {
     let place = 2 + 7 * v;
     if part[0] == 0 {
         return check_zero_rule(&part[place..], at + place);
     }
-    check_rule(&part[place..], counters, at + place)
+    check_rule(&part[place..], counters, most, at + place)
 }
 
 // The rules of a move.
-fn check_rules(part: &[u8], counters: usize, at: usize) -> Checked
+fn check_rules(part: &[u8], counters: usize, most: u32, at: usize) -> Checked
     requires { ⌜ (counters ≤ 3) × (moveSize counters ≤ length (now part)) ⌝ }
     requires { ⌜ at < 9000 ⌝ }
-    ensures { λ r. ⌜ r ≡ each (checkOne counters (now (part .entry)) at) counters ⌝ }
+    ensures { λ r. ⌜ r ≡ each (checkOne counters most (now (part .entry)) at) counters ⌝ }
 {
     for v in 0..counters {
-        let one = check_one(part, counters, at, v);
+        let one = check_one(part, counters, most, at, v);
         let Checked::Fine = one else {
             return one;
         };
@@ -128,36 +132,78 @@ fn check_rules(part: &[u8], counters: usize, at: usize) -> Checked
 }
 
 // A move record, from the part that starts with it.
-fn check_move(part: &[u8], counters: usize, at: usize) -> Checked
+fn check_move(part: &[u8], counters: usize, most: u32, at: usize) -> Checked
     requires { ⌜ (counters ≤ 3) × (moveSize counters ≤ length (now part)) ⌝ }
     requires { ⌜ at < 9000 ⌝ }
-    ensures { λ r. ⌜ r ≡ checkMove counters (now (part .entry)) at ⌝ }
+    ensures { λ r. ⌜ r ≡ checkMove counters most (now (part .entry)) at ⌝ }
 {
     let kind = demanded(part[0] <= 1, 4, at);
     let Checked::Fine = kind else {
         return kind;
     };
     if part[0] != 0 {
-        return check_rules(part, counters, at);
+        return check_rules(part, counters, most, at);
     }
     let target = demanded(part[1] == 0, 4, at + 1);
     let Checked::Fine = target else {
         return target;
     };
-    check_rules(part, counters, at)
+    check_rules(part, counters, most, at)
 }
 
-// Low above high, in region i.
+// The start value of counter v.
+fn check_value(s: &[u8], shape: Shape, v: usize) -> Checked
+    requires { ⌜ Read (now s) shape ⌝ }
+    requires { ⌜ v < shape .counters ⌝ }
+    ensures { λ r. ⌜ r ≡ checkValue (now (s .entry)) v ⌝ }
+{
+    let value = start_value(s, shape, v);
+    demanded(near_zero(value, 1000000), 4, start_place(s, shape, v))
+}
+
+// The start values.
+fn check_values(s: &[u8], shape: Shape) -> Checked
+    requires { ⌜ Read (now s) shape ⌝ }
+    ensures { λ r. ⌜ r ≡ each (checkValue (now (s .entry))) (countersOf (now (s .entry))) ⌝ }
+{
+    let counters = shape.counters;
+    for v in 0..counters {
+        let one = check_value(s, shape, v);
+        let Checked::Fine = one else {
+            return one;
+        };
+    }
+    Checked::Fine
+}
+
+// The bounds of counter v in region i: each within its limits, and in order.
+fn check_bound(s: &[u8], shape: Shape, i: usize, v: usize) -> Checked
+    requires { ⌜ Read (now s) shape ⌝ }
+    requires { ⌜ (i < shape .regions) × (v < shape .counters) ⌝ }
+    ensures { λ r. ⌜ r ≡ checkBound (now (s .entry)) i v ⌝ }
+{
+    let at = low_place(s, shape, i, v);
+    let range = range_at(s, shape, i, v);
+    let low = demanded(near_zero(range.low, 1000000), 4, at);
+    let Checked::Fine = low else {
+        return low;
+    };
+    let high = demanded(near_zero(range.high, 1000000), 4, at + shape.width);
+    let Checked::Fine = high else {
+        return high;
+    };
+    demanded(range.low <= range.high, 4, at + shape.width)
+}
+
+// The bounds of region i.
 fn check_bounds(s: &[u8], shape: Shape, i: usize) -> Checked
     requires { ⌜ Read (now s) shape ⌝ }
     requires { ⌜ i < shape .regions ⌝ }
-    ensures { λ r. ⌜ r ≡ checkBounds (now (s .entry)) i ⌝ }
+    ensures { λ r. ⌜ r ≡ each (checkBound (now (s .entry)) i) (countersOf (now (s .entry))) ⌝ }
 {
     let counters = shape.counters;
-    let place = region_place(s, shape, i);
     for v in 0..counters {
-        let range = range_at(s, shape, i, v);
-        let one = demanded(range.low <= range.high, 4, place + (5 + 4 * v));
+        let one = check_bound(s, shape, i, v);
         let Checked::Fine = one else {
             return one;
         };
@@ -173,9 +219,10 @@ fn check_moves(s: &[u8], shape: Shape, i: usize) -> Checked
 {
     let counters = shape.counters;
     let actions = shape.actions;
+    let most = offset_limit(s);
     for a in 0..actions {
         let at = move_place(s, shape, i, a);
-        let one = check_move(&s[at..], counters, at);
+        let one = check_move(&s[at..], counters, most, at);
         let Checked::Fine = one else {
             return one;
         };
@@ -200,8 +247,8 @@ fn check_region(s: &[u8], shape: Shape, i: usize) -> Checked
     check_moves(s, shape, i)
 }
 
-// 4: the first field with a value that is not allowed.
-pub fn check_limits(s: &[u8], shape: Shape) -> Checked
+// The fields of all regions.
+fn check_regions(s: &[u8], shape: Shape) -> Checked
     requires { ⌜ Read (now s) shape ⌝ }
     ensures { λ r. ⌜ r ≡ each (checkFields (now (s .entry))) (regionsOf (now (s .entry))) ⌝ }
 {
@@ -213,4 +260,16 @@ pub fn check_limits(s: &[u8], shape: Shape) -> Checked
         };
     }
     Checked::Fine
+}
+
+// 4: the first field with a value that is not allowed.
+pub fn check_limits(s: &[u8], shape: Shape) -> Checked
+    requires { ⌜ Read (now s) shape ⌝ }
+    ensures { λ r. ⌜ r ≡ checkLimits (now (s .entry)) ⌝ }
+{
+    let values = check_values(s, shape);
+    let Checked::Fine = values else {
+        return values;
+    };
+    check_regions(s, shape)
 }

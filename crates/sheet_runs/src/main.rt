@@ -1,5 +1,5 @@
-// Runs sheets at their extremes: the sheet of 43 bytes, three counters whose rules all read another counter, 0 to 4,097 actions, barred at
-// once, at the end and in between, each refusal of a run. Its output is stored.
+// Runs sheets at their extremes: the sheet of 43 bytes, three counters whose rules all read another counter, both ends of version 2's range, 0 to
+// 4,097 actions, barred at once, at the end and in between, each refusal of a run. Its output is stored.
 use text::put;
 use text::put_entries;
 use text::put_ran;
@@ -48,6 +48,21 @@ fn show_starts(w: &[u8; 4097]) {
     show_run(b"start 16", nowhere, 43, w, 4097, 4100);
 }
 
+// Version 2: one action takes -1,000,000 to 1,000,000, and back.
+fn show_wide(w: &[u8; 4097]) {
+    let s =
+        b"MSH\x02\0\x01\x01\x02\0\xC0\xBD\xF0\xFF\x0A\0\0\xC0\xBD\xF0\xFF\xC0\xBD\xF0\xFF\x01\0\x01\0\xFF\0\0\0\0\x14\0\0\x40\x42\x0F\0\x40\x42\x0F\0\x01\0\x01\0\xFF\0\0\0\0";
+    show_run(b"3 actions between -1000000 and 1000000", s, 53, w, 3, 4100);
+    show_run(
+        b"4096 actions between -1000000 and 1000000",
+        s,
+        53,
+        w,
+        4096,
+        4097,
+    );
+}
+
 // Three counters, one action by which each takes the next one's value, two regions: the first counter 0..1 or 2..9, the others 0..9;
 // start 1, 2, 3.
 fn show_turning(w: &mut [u8; 4097]) {
@@ -81,6 +96,7 @@ fn main() {
     let mut w = [0u8; 4097];
     show_short(&w);
     show_starts(&w);
+    show_wide(&w);
     show_turning(&mut w);
     show_skipping(&mut w);
 }

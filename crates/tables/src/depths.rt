@@ -34,8 +34,8 @@ pub fn reached_depth(targets: &[u8], bounds: &[usize], actions: usize, i: usize)
     low
 }
 
-// Row i is one deeper than what all its actions lead to. That is asked once depths are kept by row (that of the first is not 0), and of a row that is not
-// deep yet: it serves a row that came late, and later the depth by passes rises as fast.
+// Row i is one deeper than what all its actions lead to. That is asked once depths are kept by row (that of the first is not 0): a row that came late and
+// leads to deep rows is deep after its first turn, where the depth by passes would begin anew.
 pub fn deepen(targets: &[u8], bounds: &mut [usize], actions: usize, i: usize)
     requires { ⌜ TargetsRoom (now targets) ⌝ }
     requires { ⌜ BoundsRoom (now bounds) ⌝ }
@@ -43,9 +43,6 @@ pub fn deepen(targets: &[u8], bounds: &mut [usize], actions: usize, i: usize)
     ensures { λ _. ⌜ Deepened (now (targets .entry)) (now (bounds .entry)) (now (bounds .exit)) actions i ⌝ }
 {
     if bounds[0] == 0 {
-        return;
-    }
-    if bounds[i] > 15 {
         return;
     }
     let low = reached_depth(targets, bounds, actions, i);

@@ -1,8 +1,9 @@
--- The worked examples of document 01, computed on the definitions: a row for each, one test over the table, one proof.
+-- The worked examples of document 01, and some of version 2 (document 02, U4), computed on the definitions: a row for each, one test over the table, one
+-- proof.
 use mathlib.Core.Bool.{Bool, true, false, _&&_}
 use mathlib.Core.List.{List, [], _∷_}
 use mathlib.Core.Option.{Option, some, none}
-use Prim.Native.Nat.{ℕ}
+use Prim.Native.Nat.{ℕ, suc}
 use lib.Dec.{T, eqb}
 use lib.ListN.{set}
 use lib.IntN.{ℤ, pos, negsuc}
@@ -23,9 +24,9 @@ use Rattle.model.specs.declared.Rule.the-variants.{Carry}
 use Rattle.model.specs.Sheet.{Move, Barred, Open, Region, Sheet, within, inBox, placeIn, regionNumber, regionOf, applied, updated, landing, moved, step, sheetSystem, sheetReading}
 use Rattle.model.specs.Blocks.{emptied, cut, cuts, preimage, narrowed, classBox, volume, volumes, configurations, classOf, sameClass, blocks, targetByte, chartRecord, chartOf, rangeBytes, boxRecord, boxListOf}
 use Rattle.model.specs.Listing.{numbers, numbersIn, prefixed, valuesIn, members}
-use Rattle.sheet_bytes.specs.Layout.{moveSize, regionSize, startValue, regionPlace, labelAt, stateAt, lowPlace, highPlace, movePlace, rulePlace, factorOf, offsetOf}
+use Rattle.sheet_bytes.specs.Layout.{versionOf, wide, boundSize, offsetLimit, moveSize, regionSize, startPlace, startValue, regionPlace, labelAt, stateAt, lowPlace, highPlace, movePlace, rulePlace, factorOf, offsetOf}
 use Rattle.sheet_bytes.specs.Decode.{ruleOf, moveOf, rangeAt, boxAt, moveAt, regionAt, startOf, decode}
-use Rattle.sheet_form.specs.Form.{sameBytes, checkHeader, checkCounts, checkLength, checkRule, checkZeroRule, checkMove, checkFields}
+use Rattle.sheet_form.specs.Form.{sameBytes, checkHeader, checkCounts, checkLength, checkValue, checkBound, checkRule, checkZeroRule, checkMove, checkFields, checkLimits}
 use Rattle.sheet.specs.Check.{checkLabel, overlap, checkOverlap, checkStart, every, lands, checkLanding, sheetCheck}
 
 -- one example: what is computed, and what document 01 says it is
@@ -38,8 +39,8 @@ pub data Row : Type 0 where
   accepted-row : List ℕ → List ℕ → Row
   -- bytes that are refused, with a number and a place
   refused-row : List ℕ → ℕ → ℕ → Row
-  -- a sheet's box list
-  boxes-row : Sheet → List ℕ → Row
+  -- a sheet's box list, with so many bytes a bound
+  boxes-row : ℕ → Sheet → List ℕ → Row
   -- an action sequence's entries and the index of its first barred action
   reading-row : Sheet → List ℕ → List ℕ → Option ℕ → Row
 
@@ -69,7 +70,7 @@ test (inverse-row f b r q) = sameZ (inverse f b r .low) (q .low) && sameZ (inver
 test (chart-row s l) = sameList (chartOf s) l
 test (accepted-row s l) = sameChecked (sheetCheck s) Fine && sameList (chartOf (decode s)) l
 test (refused-row s n p) = sameChecked (sheetCheck s) (Refused n p)
-test (boxes-row s l) = sameList (boxListOf 2 s) l
+test (boxes-row n s l) = sameList (boxListOf n s) l
 test (reading-row s w l b) = sameList (sheetReading s w .entries) l && sameOption (sheetReading s w .barred) b
 
 -- every row passes
@@ -99,6 +100,19 @@ bytes =
     ∷ 20 ∷ 0 ∷ 0 ∷ 8 ∷ 0 ∷ 15 ∷ 0 ∷ 0 ∷ 0 ∷ 0 ∷ 0 ∷ 0 ∷ 0 ∷ 0 ∷ 0 ∷ 0
     ∷ []
 
+-- the same as version 2
+pub wideBytes : List ℕ
+wideBytes =
+    77 ∷ 83 ∷ 72 ∷ 2 ∷ 0 ∷ 1 ∷ 1 ∷ 2 ∷ 0 ∷ 2 ∷ 0 ∷ 0 ∷ 0
+    ∷ 10 ∷ 0 ∷ 0 ∷ 0 ∷ 0 ∷ 0 ∷ 0 ∷ 7 ∷ 0 ∷ 0 ∷ 0 ∷ 1 ∷ 0 ∷ 1 ∷ 0 ∷ 2 ∷ 1 ∷ 0 ∷ 0 ∷ 0
+    ∷ 20 ∷ 0 ∷ 0 ∷ 8 ∷ 0 ∷ 0 ∷ 0 ∷ 15 ∷ 0 ∷ 0 ∷ 0 ∷ 0 ∷ 0 ∷ 0 ∷ 0 ∷ 0 ∷ 0 ∷ 0 ∷ 0 ∷ 0
+    ∷ []
+
+-- bytes with others from a place on
+pub changed : List ℕ → ℕ → List ℕ → List ℕ
+changed s at [] = s
+changed s at (b ∷ l) = changed (set s at b) (suc at) l
+
 -- factor -1, offset -1 on one region -8..7
 pub mirror : Sheet
 mirror = sheet (region 10 (negsuc 7) (pos 7) (carry (negsuc 0) (negsuc 0)) ∷ []) (pos 2)
@@ -115,7 +129,7 @@ table =
     -- P1
     chart-row first (66 ∷ 67 ∷ 72 ∷ 1 ∷ 0 ∷ 1 ∷ 3 ∷ 10 ∷ 0 ∷ 1 ∷ 10 ∷ 0 ∷ 2 ∷ 20 ∷ 0 ∷ 255 ∷ [])
     ∷ accepted-row bytes (66 ∷ 67 ∷ 72 ∷ 1 ∷ 0 ∷ 1 ∷ 3 ∷ 10 ∷ 0 ∷ 1 ∷ 10 ∷ 0 ∷ 2 ∷ 20 ∷ 0 ∷ 255 ∷ [])
-    ∷ boxes-row first (0 ∷ 2 ∷ 0 ∷ 3 ∷ 0 ∷ 0 ∷ 4 ∷ 0 ∷ 7 ∷ 0 ∷ 0 ∷ 8 ∷ 0 ∷ 15 ∷ 0 ∷ [])
+    ∷ boxes-row 2 first (0 ∷ 2 ∷ 0 ∷ 3 ∷ 0 ∷ 0 ∷ 4 ∷ 0 ∷ 7 ∷ 0 ∷ 0 ∷ 8 ∷ 0 ∷ 15 ∷ 0 ∷ [])
     -- P2: offset 2 in place of 1
     ∷ refused-row (set bytes 23 2) 8 18
     -- P3: the second region's low 7
@@ -124,18 +138,38 @@ table =
     ∷ refused-row (set bytes 9 16) 7 8
     -- P5
     ∷ chart-row mirror (66 ∷ 67 ∷ 72 ∷ 1 ∷ 0 ∷ 1 ∷ 1 ∷ 10 ∷ 0 ∷ 0 ∷ [])
-    ∷ boxes-row mirror (0 ∷ 248 ∷ 255 ∷ 7 ∷ 0 ∷ [])
+    ∷ boxes-row 2 mirror (0 ∷ 248 ∷ 255 ∷ 7 ∷ 0 ∷ [])
     -- P6
     ∷ inverse-row (negsuc 2) (pos 0) (range (negsuc 6) (negsuc 1)) (range (pos 1) (pos 2))
     -- P7
     ∷ inverse-row (negsuc 2) (pos 0) (range (negsuc 1) (pos 7)) (range (negsuc 1) (pos 0))
     -- P8
     ∷ chart-row doubling (66 ∷ 67 ∷ 72 ∷ 1 ∷ 0 ∷ 1 ∷ 1 ∷ 10 ∷ 0 ∷ 0 ∷ [])
-    ∷ boxes-row doubling (0 ∷ 0 ∷ 0 ∷ 0 ∷ 0 ∷ [])
+    ∷ boxes-row 2 doubling (0 ∷ 0 ∷ 0 ∷ 0 ∷ 0 ∷ [])
     -- P9, as U5 of document 02 has it
     ∷ reading-row first (0 ∷ 0 ∷ 0 ∷ []) (10 ∷ 10 ∷ 20 ∷ 65535 ∷ []) (some 2)
+    -- P1 as version 2: the same chart, and bounds of four bytes
+    ∷ accepted-row wideBytes (66 ∷ 67 ∷ 72 ∷ 1 ∷ 0 ∷ 1 ∷ 3 ∷ 10 ∷ 0 ∷ 1 ∷ 10 ∷ 0 ∷ 2 ∷ 20 ∷ 0 ∷ 255 ∷ [])
+    ∷ boxes-row 4 mirror (0 ∷ 248 ∷ 255 ∷ 255 ∷ 255 ∷ 7 ∷ 0 ∷ 0 ∷ 0 ∷ [])
+    -- there is no version 3, and each version has its own length
+    ∷ refused-row (changed wideBytes 3 (3 ∷ [])) 1 0
+    ∷ refused-row (changed wideBytes 3 (2 ∷ 1 ∷ [])) 1 0
+    ∷ refused-row (changed wideBytes 3 (1 ∷ [])) 3 53
+    ∷ refused-row (changed bytes 3 (2 ∷ [])) 3 43
+    -- 1,000,001 as start value, as low and as high; -1,000,001 as low; 16 as the low of 8..15
+    ∷ refused-row (changed wideBytes 9 (65 ∷ 66 ∷ 15 ∷ [])) 4 9
+    ∷ refused-row (changed wideBytes 16 (65 ∷ 66 ∷ 15 ∷ [])) 4 16
+    ∷ refused-row (changed wideBytes 40 (65 ∷ 66 ∷ 15 ∷ [])) 4 40
+    ∷ refused-row (changed wideBytes 16 (191 ∷ 189 ∷ 240 ∷ 255 ∷ [])) 4 16
+    ∷ refused-row (changed wideBytes 36 (16 ∷ [])) 4 40
+    -- 1,000,000 as start value is in no region
+    ∷ refused-row (changed wideBytes 9 (64 ∷ 66 ∷ 15 ∷ [])) 7 8
+    -- 200,000,001 as offset; 4,000,001 as offset, in version 1 and in version 2, where it leads out of all regions
+    ∷ refused-row (changed wideBytes 29 (1 ∷ 194 ∷ 235 ∷ 11 ∷ [])) 4 29
+    ∷ refused-row (changed bytes 23 (1 ∷ 9 ∷ 61 ∷ [])) 4 23
+    ∷ refused-row (changed wideBytes 29 (1 ∷ 9 ∷ 61 ∷ [])) 8 24
     ∷ []
 
 pub worked-examples : T (passes table)
-unfolding passes test table sameZ sameList sameOption sameChecked bytes region carry sheet first mirror doubling range smaller larger contains meet size floorBy floor ceiling inverse split bitsOf collect after entry written earliest firstBarred reading place known added visited visitedAt visitedNext explore within inBox placeIn regionNumber regionOf applied updated landing moved step sheetSystem sheetReading emptied cut cuts preimage narrowed classBox volume volumes configurations classOf sameClass blocks targetByte chartRecord chartOf rangeBytes boxRecord boxListOf joined unsignedAt signedOf signedAt vacant run andThen demand numbers numbersIn prefixed valuesIn members moveSize regionSize startValue regionPlace labelAt stateAt lowPlace highPlace movePlace rulePlace factorOf offsetOf ruleOf moveOf rangeAt boxAt moveAt regionAt startOf decode sameBytes checkHeader checkCounts checkLength checkRule checkZeroRule checkMove checkFields checkLabel overlap checkOverlap checkStart every lands checkLanding sheetCheck
+unfolding passes test table sameZ sameList sameOption sameChecked bytes wideBytes changed region carry sheet first mirror doubling range smaller larger contains meet size floorBy floor ceiling inverse split bitsOf collect after entry written earliest firstBarred reading place known added visited visitedAt visitedNext explore within inBox placeIn regionNumber regionOf applied updated landing moved step sheetSystem sheetReading emptied cut cuts preimage narrowed classBox volume volumes configurations classOf sameClass blocks targetByte chartRecord chartOf rangeBytes boxRecord boxListOf joined unsignedAt signedOf signedAt vacant run andThen demand numbers numbersIn prefixed valuesIn members versionOf wide boundSize offsetLimit moveSize regionSize startPlace startValue regionPlace labelAt stateAt lowPlace highPlace movePlace rulePlace factorOf offsetOf ruleOf moveOf rangeAt boxAt moveAt regionAt startOf decode sameBytes checkHeader checkCounts checkLength checkValue checkBound checkRule checkZeroRule checkMove checkFields checkLimits checkLabel overlap checkOverlap checkStart every lands checkLanding sheetCheck
 worked-examples = tt

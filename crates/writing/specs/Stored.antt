@@ -63,5 +63,5 @@ rows-le k n w h = omega (arith, mul-le-mul-right w h)
 pub rows-more : (k w : ℕ) → (k + 1) * w ≡ k * w + w
 rows-more k w = omega arith
 
-pub rows-small : (n w : ℕ) → n ≤ 255 → w ≤ 16 → n * w ≤ 4080
+pub rows-small : (n w : ℕ) → n ≤ 255 → w ≤ 25 → n * w ≤ 6375
 rows-small n w h l = omega (arith, mul-le-mul-right w h)

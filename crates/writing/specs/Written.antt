@@ -5,25 +5,23 @@ use Prim.Native.Nat.{ℕ, zero, suc, _+_, _*_, _≤_, _<_}
 use native.Mathlib.Omega.{arith}
 use lib.ListN.{getD}
 use lib.IntN.{ℤ, pos}
-use lib.Signed.{_≤ℤ_}
 use Rattle.integers.specs.declared.Range.{Range}
-use Rattle.integers.specs.LittleEndian.{Bytes, split}
-use Rattle.integers.specs.Order.{ints}
-use Rattle.integers.specs.Range.{Within, RangeWithin}
+use Rattle.integers.specs.LittleEndian.{Bytes, Holds, split}
 use Rattle.systems.specs.Lists.{collect, collect-ext}
 use Rattle.model.specs.Sheet.{Configuration, Region, regionNumber, regionOf, Covered, Each, each-more}
 use Rattle.model.specs.Blocks.{chartMark, chartOf, boxListOf}
 use Rattle.model.specs.Boxes.{fits-ordered, inside-each}
+use Rattle.model.specs.BoxList.{RangeHeld, inside-held}
 use Rattle.refinement.specs.Numbering.{walk}
 use Rattle.refinement.specs.Walk.{Numbered}
 use Rattle.refinement.specs.SheetTable.{row-fits}
 use Rattle.refinement.specs.Completed.{rowRecord, tableChart, tableBoxes, completed-in, completed-chart, completed-boxes}
 use Rattle.sheet_bytes.specs.declared.Shape.{Shape}
 use Rattle.sheet_bytes.specs.declared.Ranges.{Ranges}
-use Rattle.sheet_bytes.specs.Layout.{countersOf, labelAt}
+use Rattle.sheet_bytes.specs.Layout.{countersOf, boundSize, labelAt}
 use Rattle.sheet_bytes.specs.Decode as Decode
 use Rattle.sheet_bytes.specs.Decode.{decode, rangeAt, boxAt}
-use Rattle.sheet_bytes.specs.Bounds.{each-listed, range-within}
+use Rattle.sheet_bytes.specs.Bounds.{each-listed, range-held}
 use Rattle.sheet_bytes.specs.Three.{firsts, rangesMeant, configMeant}
 use Rattle.tables.specs.Arrays.{rangeIn, rangesIn, configIn, targetIn}
 use Rattle.tables.specs.Meaning.{Ready, rowIn, region-listed, covered-few}
@@ -32,13 +30,6 @@ use Rattle.minimize.specs.Steps.{Table}
 use Rattle.writing.specs.Numbers.{entryIn, Walkable}
 use Rattle.writing.specs.ChartBytes.{headerBytes, targetByte, targetBytes, recordBytes, orderedBytes, recordsBytes, chartBytes, Placed}
 use Rattle.writing.specs.BoxBytes.{boundIn, Bounded, AllBounded}
-
--- a range in order inside one within bounds
-inside-bounded : (n : ℕ) (q r : Range) → r .low ≤ℤ q .low → q .low ≤ℤ q .high → q .high ≤ℤ r .high → RangeWithin n r → RangeWithin n q
-inside-bounded n q r l o u x =
-    let a = x .low-within in
-    let b = x .high-within in
-    record { low-within = record { above = omega ints; below = omega ints }; high-within = record { above = omega ints; below = omega ints } }
 
 -- the ranges that count, one by one
 first-of : {P : Range → Type 0} (n : ℕ) (r : Ranges) → Each P (rangesMeant n r) → 1 ≤ n → P (r .first)
@@ -59,20 +50,20 @@ third-of (suc zero) r e h = absurd (omega arith)
 third-of (suc (suc zero)) r e h = absurd (omega arith)
 third-of (suc (suc (suc n))) r (each-more p (each-more q (each-more s e))) h = s
 
-bounds-from : (c : List ℤ) (i n : ℕ) → n ≤ 3 → Each (RangeWithin 32768) (rangesMeant n (rangesIn c i)) → Bounded c (2 * n) i
+bounds-from : (w : ℕ) (c : List ℤ) (i n : ℕ) → n ≤ 3 → Each (RangeHeld w) (rangesMeant n (rangesIn c i)) → Bounded w c (2 * n) i
 unfolding rangesIn rangeIn
-bounds-from c i n few e b h = go b h
+bounds-from w c i n few e b h = go b h
   where
-    at : (b j : ℕ) → j ≡ 9 * i + 3 + b → Within 32768 (getD c j (pos 0)) → Within 32768 (boundIn c i b)
-    at b j q w = subst (λ (k : ℕ). Within 32768 (getD c k (pos 0))) q w
+    at : (b j : ℕ) → j ≡ 9 * i + 3 + b → Holds w (getD c j (pos 0)) → Holds w (boundIn c i b)
+    at b j q h = subst (λ (k : ℕ). Holds w (getD c k (pos 0))) q h
 
-    go : (b : ℕ) → b < 2 * n → Within 32768 (boundIn c i b)
-    go zero h = at 0 (9 * i + 3) (omega arith) (first-of n (rangesIn c i) e (omega arith) .low-within)
-    go (suc zero) h = at 1 (9 * i + 3 + 1) (omega arith) (first-of n (rangesIn c i) e (omega arith) .high-within)
-    go (suc (suc zero)) h = at 2 (9 * i + 5) (omega arith) (second-of n (rangesIn c i) e (omega arith) .low-within)
-    go (suc (suc (suc zero))) h = at 3 (9 * i + 5 + 1) (omega arith) (second-of n (rangesIn c i) e (omega arith) .high-within)
-    go (suc (suc (suc (suc zero)))) h = at 4 (9 * i + 7) (omega arith) (third-of n (rangesIn c i) e (omega arith) .low-within)
-    go (suc (suc (suc (suc (suc zero))))) h = at 5 (9 * i + 7 + 1) (omega arith) (third-of n (rangesIn c i) e (omega arith) .high-within)
+    go : (b : ℕ) → b < 2 * n → Holds w (boundIn c i b)
+    go zero h = at 0 (9 * i + 3) (omega arith) (first-of n (rangesIn c i) e (omega arith) .low-held)
+    go (suc zero) h = at 1 (9 * i + 3 + 1) (omega arith) (first-of n (rangesIn c i) e (omega arith) .high-held)
+    go (suc (suc zero)) h = at 2 (9 * i + 5) (omega arith) (second-of n (rangesIn c i) e (omega arith) .low-held)
+    go (suc (suc (suc zero))) h = at 3 (9 * i + 5 + 1) (omega arith) (second-of n (rangesIn c i) e (omega arith) .high-held)
+    go (suc (suc (suc (suc zero)))) h = at 4 (9 * i + 7) (omega arith) (third-of n (rangesIn c i) e (omega arith) .low-held)
+    go (suc (suc (suc (suc (suc zero))))) h = at 5 (9 * i + 7 + 1) (omega arith) (third-of n (rangesIn c i) e (omega arith) .high-held)
     go (suc (suc (suc (suc (suc (suc b)))))) h = absurd (omega arith)
 
 module _ {s : List ℕ} {shape : Shape} (R : Ready s shape) where
@@ -80,11 +71,12 @@ module _ {s : List ℕ} {shape : Shape} (R : Ready s shape) where
   unfolding Decode.regionAt
   label-is x c = ap (λ (r : Region). r .label) (region-listed R x c)
 
-  region-bounded : Bytes s → (x : Configuration) → Covered (decode s) x → Each (RangeWithin 32768) (regionOf (decode s) x .box .ranges)
+  region-held : Bytes s → (x : Configuration) → Covered (decode s) x → Each (RangeHeld (shape .width)) (regionOf (decode s) x .box .ranges)
   unfolding Decode.regionAt boxAt
-  region-bounded B x c =
-      subst (λ (r : Region). Each (RangeWithin 32768) (r .box .ranges)) (sym (region-listed R x c))
-      (each-listed (rangeAt s (regionNumber (decode s) x)) (countersOf s) (λ v h. range-within s (regionNumber (decode s) x) v B))
+  region-held B x c =
+      subst (λ (r : Region). Each (RangeHeld (shape .width)) (r .box .ranges)) (sym (region-listed R x c))
+      (each-listed (rangeAt s (regionNumber (decode s) x)) (countersOf s) (λ v h.
+      subst (λ (w : ℕ). RangeHeld w (rangeAt s (regionNumber (decode s) x) v)) (sym (R .read .width-is)) (range-held s (regionNumber (decode s) x) v B)))
 
   module _ {c : List ℤ} {h t : List ℕ} {n : ℕ} (D : Table s shape c h t n) where
     -- its targets can be walked
@@ -96,13 +88,13 @@ module _ {s : List ℕ} {shape : Shape} (R : Ready s shape) where
     unfolding rowIn
     row-covered k l = let S = D .completed .sound .rows k l in S .covered (configMeant (shape .counters) (configIn c h k)) (S .holds)
 
-    -- its bounds fit in 16 bits
-    row-bounded : Bytes s → (k : ℕ) → k < n → Bounded c (2 * shape .counters) k
+    -- the bytes of a bound hold its bounds
+    row-bounded : Bytes s → (k : ℕ) → k < n → Bounded (shape .width) c (2 * shape .counters) k
     unfolding rowIn
     row-bounded B k l =
         let F = row-fits (decode s) (R .well) (rowIn (shape .counters) c h k) (D .completed .sound .rows k l) in
-        bounds-from c k (shape .counters) (counters-few R)
-        (inside-each (inside-bounded 32768) (F .ranges-inside) (fits-ordered (F .ranges-fit)) (region-bounded B (configMeant (shape .counters) (configIn c h k)) (row-covered k l)))
+        bounds-from (shape .width) c k (shape .counters) (counters-few R)
+        (inside-each (inside-held (shape .width)) (F .ranges-inside) (fits-ordered (F .ranges-fit)) (region-held B (configMeant (shape .counters) (configIn c h k)) (row-covered k l)))
 
     module _ (order number : List ℕ) (N : Numbered (walk (targetIn t) (shape .actions) 255) (entryIn order) (entryIn number) n) where
       numbered : Numbered (walk (targetIn t) (decode s .actions) 255) (entryIn order) (entryIn number) n
@@ -119,7 +111,7 @@ module _ {s : List ℕ} {shape : Shape} (R : Ready s shape) where
           let i = entryIn order k in
           (omega arith, omega (arith, D .located i r, covered-few R (configMeant (shape .counters) (configIn c h i)) (row-covered i r)))
 
-      pub table-bounded : Bytes s → AllBounded c order (2 * shape .counters) n
+      pub table-bounded : Bytes s → AllBounded (shape .width) c order (2 * shape .counters) n
       table-bounded B k l =
           let r = order-row k l in
           let f = D .completed .few in
@@ -146,5 +138,5 @@ module _ {s : List ℕ} {shape : Shape} (R : Ready s shape) where
           ∙ sym (completed-chart (decode s) (R .well) (D .completed) numbered)
 
       -- and of its box list.
-      pub table-boxes : tableBoxes 2 n (rowIn (shape .counters) c h) (entryIn order) ≡ boxListOf 2 (decode s)
-      table-boxes = sym (completed-boxes (decode s) (R .well) (D .completed) 2 numbered)
+      pub table-boxes : tableBoxes (shape .width) n (rowIn (shape .counters) c h) (entryIn order) ≡ boxListOf (boundSize s) (decode s)
+      table-boxes = sym (completed-boxes (decode s) (R .well) (D .completed) (shape .width) numbered) ∙ ap (λ (w : ℕ). boxListOf w (decode s)) (R .read .width-is)

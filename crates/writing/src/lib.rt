@@ -5,6 +5,7 @@ ghost use Prim.Native.Nat.{_+_, _*_, _≤_};
 ghost use lib.ListN.{length};
 ghost use Rattle.answers.specs.Run.{overwrite};
 ghost use Rattle.model.specs.Blocks.{chartOf, boxListOf};
+ghost use Rattle.sheet_bytes.specs.Layout.{boundSize};
 ghost use Rattle.sheet_bytes.specs.Decode.{decode};
 ghost use Rattle.tables.specs.Arrays.{CellsRoom, HomesRoom, TargetsRoom};
 ghost use Rattle.tables.specs.Meaning.{Ready};
@@ -35,13 +36,13 @@ pub fn write_both(
     requires { ⌜ TargetsRoom (now targets) ⌝ }
     requires { ⌜ Table (now s) shape (now cells) (now homes) (now targets) n ⌝ }
     requires { ⌜ 7 + n * (2 + shape .actions) ≤ length (now chart) ⌝ }
-    requires { ⌜ n * (1 + 4 * shape .counters) ≤ length (now list) ⌝ }
+    requires { ⌜ n * (1 + 2 * shape .width * shape .counters) ≤ length (now list) ⌝ }
     ensures { λ _. ⌜ now (chart .exit) ≡ overwrite (chartOf (decode (now (s .entry)))) (now (chart .entry)) ⌝ }
-    ensures { λ _. ⌜ now (list .exit) ≡ overwrite (boxListOf 2 (decode (now (s .entry)))) (now (list .entry)) ⌝ }
+    ensures { λ _. ⌜ now (list .exit) ≡ overwrite (boxListOf (boundSize (now (s .entry))) (decode (now (s .entry)))) (now (list .entry)) ⌝ }
 {
     let mut order = [0u8; 255];
     let mut number = [255u8; 256];
     number_rows(targets, shape.actions, n, &mut order, &mut number);
     write_chart(s, shape, homes, targets, &order, &number, n, chart);
-    write_boxes(cells, homes, shape.counters, &order, n, list);
+    write_boxes(cells, homes, shape, &order, n, list);
 }

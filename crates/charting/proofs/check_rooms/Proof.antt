@@ -1,6 +1,7 @@
 use native.Mathlib.Omega.{arith}
 use Prim.Native.Nat.{_+_, _*_}
 use Rattle.answers.specs.Stages.{stop, go-on}
+use Rattle.sheet_bytes.specs.Fields.{pairs-small}
 use Rattle.writing.specs.Stored.{rows-small}
 use Rattle.charting.specs.Making.{roomsFor}
 use borrow.Author.Needs.{needs}
@@ -8,13 +9,17 @@ use Rattle.charting.proofs.check_rooms.Statement.{statement}
 use Rattle.charting.proofs.check_rooms.Tie as tie
 
 add-needed : tie.Need-add-needed
-add-needed c = search needs
+add-needed c = omega (arith, c .before .pre .0 .actions-small)
 
 mul-needed : tie.Need-mul-needed
-mul-needed c = let a = c .before .args in omega (arith, rows-small (a .n) (2 + a .shape .actions) (omega arith) (omega arith))
+mul-needed c =
+    let a = c .before .args in
+    omega (arith, rows-small (a .n) (2 + a .shape .actions) (c .before .pre .1) (omega (arith, c .before .pre .0 .actions-small)))
 
 add-needed-2 : tie.Need-add-needed-2
-add-needed-2 c = let a = c .before .args in omega (arith, rows-small (a .n) (2 + a .shape .actions) (omega arith) (omega arith))
+add-needed-2 c =
+    let a = c .before .args in
+    omega (arith, rows-small (a .n) (2 + a .shape .actions) (c .before .pre .1) (omega (arith, c .before .pre .0 .actions-small)))
 
 demanded-requires : tie.Need-demanded-requires
 demanded-requires c κs = search needs
@@ -30,20 +35,25 @@ unfolding roomsFor
 returns c = stop _ (c .before .before .demanded .ensures) (c .enum-told2 .given .1)
 
 mul-needed-2 : tie.Need-mul-needed-2
-mul-needed-2 c = search needs
-
-add-needed-3 : tie.Need-add-needed-3
-add-needed-3 c = search needs
+mul-needed-2 c = omega (arith, c .before .before .before .before .before .pre .0 .width-small)
 
 mul-needed-3 : tie.Need-mul-needed-3
-mul-needed-3 c = let a = c .before .before .before .before .before .args in omega (arith, rows-small (a .n) (1 + 4 * a .shape .counters) (omega arith) (omega arith))
+mul-needed-3 c = omega (arith, pairs-small (c .before .before .before .before .before .before .pre .0))
+
+add-needed-3 : tie.Need-add-needed-3
+add-needed-3 c = omega (arith, pairs-small (c .before .before .before .before .before .before .pre .0))
+
+mul-needed-4 : tie.Need-mul-needed-4
+mul-needed-4 c =
+    let a = c .before .before .before .before .before .before .args in
+    omega (arith, rows-small (a .n) (1 + 2 * a .shape .width * a .shape .counters) (c .before .before .before .before .before .before .pre .1) (omega (arith, pairs-small (c .before .before .before .before .before .before .pre .0))))
 
 demanded-requires-2 : tie.Need-demanded-requires-2
 demanded-requires-2 c κs = search needs
 
 returns-2 : tie.Need-returns-2
 unfolding roomsFor
-returns-2 c = go-on (c .before .before .before .before .demanded .ensures) (c .before .before .enum-told .given .1) (c .demanded2 .ensures)
+returns-2 c = go-on (c .before .before .before .before .before .demanded .ensures) (c .before .before .before .enum-told .given .1) (c .demanded2 .ensures)
 
 pub check-rooms-spec : {M : Type 1} → statement M
 check-rooms-spec =
@@ -57,7 +67,8 @@ check-rooms-spec =
     enum-told-2
     returns
     mul-needed-2
-    add-needed-3
     mul-needed-3
+    add-needed-3
+    mul-needed-4
     demanded-requires-2
     returns-2)

@@ -1,5 +1,6 @@
 use mathlib.Core.Path.{refl, sym, _∙_}
 use lib.ListN.{length}
+use Rattle.sheet_bytes.specs.Layout.{boundSize}
 use Rattle.sheet_bytes.specs.Decode.{decode}
 use Rattle.sheet_bytes.specs.Three.{shapeOf}
 use Rattle.sheet_bytes.specs.Fields.{header-within}
@@ -42,7 +43,7 @@ returns c =
     let list = start .args .list .now in
     let m = c .before .before .before .before .make-accepted in
     let M =
-    makes-by (decode s) (m .result) chart (m .last .1 .1 .0) list (m .last .1 .1 .1 .0) (sheet-passed s (length chart) (length list) (c .before .before .before .before .before .before .before .before .before .before .check .ensures) (c .before .before .before .before .before .before .before .before .enum-told .given .1)) (m .ensures) in
+    makes-by (boundSize s) (decode s) (m .result) chart (m .last .1 .1 .0) list (m .last .1 .1 .1 .0) (sheet-passed s (length chart) (length list) (c .before .before .before .before .before .before .before .before .before .before .check .ensures) (c .before .before .before .before .before .before .before .before .enum-told .given .1)) (m .ensures) in
     (M .answer, (M .chart-left, M .list-left))
 
 returns-2 : tie.Need-returns-2
@@ -52,7 +53,7 @@ returns-2 c =
     let chart = start .args .chart .now in
     let list = start .args .list .now in
     let e = c .before .checked .given in
-    let M = makes-refused (decode s) chart list (sheet-refused s (length chart) (length list) (e .0 .0) (e .0 .1 .0) (c .before .before .before .check .ensures) (e .1)) in
+    let M = makes-refused (boundSize s) (decode s) chart list (sheet-refused s (length chart) (length list) (e .0 .0) (e .0 .1 .0) (c .before .before .before .check .ensures) (e .1)) in
     (M .answer, (M .chart-left, M .list-left))
 
 pub make-spec : {M : Type 1} → statement M

@@ -1,8 +1,7 @@
-use mathlib.Core.Path.{refl}
 use lib.ListN.{length}
+use Rattle.sheet_bytes.specs.Layout.{boundSize}
 use Rattle.sheet_bytes.specs.Decode.{decode}
 use Rattle.charting.specs.Making.{makes-refused, many-blocks, answered-many, answered-table}
-use borrow.Author.Needs.{needs}
 use borrow.Author.Needs.{needs}
 use Rattle.charting.proofs.make_accepted.Statement.{statement}
 use Rattle.charting.proofs.make_accepted.Tie as tie
@@ -33,7 +32,8 @@ returns c =
     let chart = start .args .chart .now in
     let list = start .args .list .now in
     let sheet = decode (start .args .s .now) in
-    makes-refused sheet chart list (many-blocks sheet (length chart) (length list) (answered-many (c .before .before .before .before .before .refine .ensures) (c .enum-told .given .1)))
+    let w = boundSize (start .args .s .now) in
+    makes-refused w sheet chart list (many-blocks w sheet (length chart) (length list) (answered-many (c .before .before .before .before .before .refine .ensures) (c .enum-told .given .1)))
 
 slice-aggregate-make-blocks : tie.Need-slice-aggregate-make-blocks
 slice-aggregate-make-blocks c = search needs

@@ -1,15 +1,16 @@
 use Prim.Native.Nat.{_+_, _*_}
 use mathlib.Core.Path.{sym, _∙_}
 use lib.ListN.{length}
+use Rattle.sheet_bytes.specs.Layout.{boundSize}
 use Rattle.sheet_bytes.specs.Decode.{decode}
-use Rattle.minimize.specs.State.{counters-few, actions-few}
+use Rattle.sheet_bytes.specs.Fields.{small}
 use Rattle.charting.specs.Making.{makes-refused, makes-done, rooms-checked, rooms-fit, table-blocks}
 use borrow.Author.Needs.{needs}
 use Rattle.charting.proofs.make_blocks.Statement.{statement}
 use Rattle.charting.proofs.make_blocks.Tie as tie
 
 check-rooms-requires : tie.Need-check-rooms-requires
-check-rooms-requires c κs = let p = c .before .before .before .before .before .pre in (counters-few (p .0), actions-few (p .0), p .1 .1 .1 .1 .completed .few)
+check-rooms-requires c κs = let p = c .before .before .before .before .before .pre in (small (p .0 .read), p .1 .1 .1 .1 .completed .few)
 
 enum-known-rooms : tie.Need-enum-known-rooms
 enum-known-rooms c = search needs
@@ -24,7 +25,7 @@ write-both-requires c κs =
     let shape = start .args .shape in
     let p = start .pre in
     let (u, v) =
-    rooms-fit (7 + n * (2 + shape .actions)) (n * (1 + 4 * shape .counters)) (length (start .args .chart .now)) (length (start .args .list .now))
+    rooms-fit (7 + n * (2 + shape .actions)) (n * (1 + 2 * shape .width * shape .counters)) (length (start .args .chart .now)) (length (start .args .list .now))
     (sym (c .before .before .before .before .check-rooms .ensures) ∙ c .before .before .enum-told .given .1) in
     (p .0, (p .1 .0, (p .1 .1 .0, (p .1 .1 .1 .0, (p .1 .1 .1 .1, (u, v))))))
 
@@ -42,7 +43,7 @@ returns c =
     let chart = start .args .chart .now in
     let list = start .args .list .now in
     let w = c .before .before .before .before .write-both in
-    makes-done (decode (start .args .s .now)) (start .args .n) chart (w .last .1 .1 .1 .1 .1 .1 .0) list (w .last .1 .1 .1 .1 .1 .1 .1 .0)
+    makes-done (boundSize (start .args .s .now)) (decode (start .args .s .now)) (start .args .n) chart (w .last .1 .1 .1 .1 .1 .1 .0) list (w .last .1 .1 .1 .1 .1 .1 .1 .0)
     (sym (c .before .before .before .before .before .before .before .enum-told .given .1) ∙ c .before .before .before .before .before .before .before .before .before .check-rooms .ensures ∙ rooms-checked R D (length chart) (length list)) (table-blocks R D) (w .ensures .0) (w .ensures .1)
 
 returns-2 : tie.Need-returns-2
@@ -52,7 +53,7 @@ returns-2 c =
     let D = start .pre .1 .1 .1 .1 in
     let chart = start .args .chart .now in
     let list = start .args .list .now in
-    makes-refused (decode (start .args .s .now)) chart list
+    makes-refused (boundSize (start .args .s .now)) (decode (start .args .s .now)) chart list
     (sym (c .before .rooms .given .1) ∙ c .before .before .before .check-rooms .ensures ∙ rooms-checked R D (length chart) (length list))
 
 pub make-blocks-spec : {M : Type 1} → statement M

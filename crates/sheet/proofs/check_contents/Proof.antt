@@ -1,5 +1,6 @@
 use mathlib.Core.Path.{sym, _∙_}
 use Rattle.answers.specs.Stages.{stop, go-on}
+use Rattle.sheet_form.specs.Fits.{limits-fields}
 use Rattle.sheet.specs.Whole.{contentsCheck}
 use borrow.Author.Needs.{needs}
 use Rattle.sheet.proofs.check_contents.Statement.{statement}
@@ -66,7 +67,7 @@ check-landing-requires : tie.Need-check-landing-requires
 check-landing-requires c κs = (
   c .before .before .before .before .before .before .before .before .before .before .before .before .before .pre,
   record {
-    fields = sym (c .before .before .before .before .before .before .before .before .before .before .before .check-limits .ensures) ∙ c .before .before .before .before .before .before .before .before .before .enum-told .given .1;
+    fields = limits-fields _ (sym (c .before .before .before .before .before .before .before .before .before .before .before .check-limits .ensures) ∙ c .before .before .before .before .before .before .before .before .before .enum-told .given .1);
     apart = sym (c .before .before .before .before .before .check-overlaps .ensures) ∙ c .before .before .before .enum-told5 .given .1;
   },
 )

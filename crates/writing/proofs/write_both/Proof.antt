@@ -4,6 +4,7 @@ use mathlib.Core.Path.{refl, ap, _∙_}
 use mathlib.Core.List.{List}
 use lib.ListN.{getD-replicate}
 use Rattle.answers.specs.Run.{overwrite}
+use Rattle.sheet_bytes.specs.Fields.{width-right}
 use Rattle.minimize.specs.State.{counters-few}
 use Rattle.writing.specs.Written.{table-walkable, table-placed, table-bounded, table-chart, table-boxes}
 use borrow.Author.Needs.{needs}
@@ -58,7 +59,7 @@ write-boxes-requires c κs =
         (
           c .before .before .before .before .before .before .before .before .before .order2 .given,
           (
-            (counters-few R, D .completed .few),
+            (width-right (R .read), counters-few R, D .completed .few),
             (table-bounded R D order number (walk .ensures) (λ j. c .before .before .before .before .before .before .before .before .before .before .before .before .before .before .before .before .before .shared-slice-known .given j .fits), start .pre .1 .1 .1 .1 .1 .1),
           ),
         ),

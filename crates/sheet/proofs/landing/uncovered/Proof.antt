@@ -6,7 +6,7 @@ use Rattle.sheet_bytes.specs.declared.RegionBox.{RegionBox}
 use Rattle.sheet_bytes.specs.Layout.{regionsOf}
 use Rattle.sheet_bytes.specs.Three.{boxThree}
 use Rattle.sheet_bytes.specs.Cuts.{allThree}
-use Rattle.sheet_bytes.specs.Bounds.{RangesWithin, box-within}
+use Rattle.sheet_bytes.specs.Bounds.{RangesWithin}
 use Rattle.sheet.specs.Volumes.{shareThree}
 use Rattle.sheet.specs.Tight.{tight-three}
 use Rattle.sheet.specs.Shares.{sharesThree, none-taken, all-taken, taken, taken-more}
@@ -37,7 +37,7 @@ share-of-requires : tie.Need-share-of-requires Inv-loop μ-loop
 share-of-requires c κs =
     let start = c .before .before .before .before .before in
     let given = start .pre .1 in
-    let w = box-within (start .args .s .now) (c .before .before .loop .j) (λ i. c .before .before .before .before .shared-slice-known .given i .fits) in
+    let w = given .boxes (c .before .before .loop .j) (omega (arith, c .before .loop-test .taken, start .pre .0 .regions-are)) in
     (given .ranges, (given .rules, subst (λ (x : RegionBox). RangesWithin 1000000 (x .ranges)) (sym (c .box-at .ensures)) w))
 
 sub-left : tie.Need-sub-left Inv-loop μ-loop

@@ -2,51 +2,39 @@ use native.Mathlib.Omega.{arith}
 use mir.Syntax.{w64}
 use mir.Val.{SFits}
 use mir.ValLaws.{toZ-ofZ}
-use Rattle.sheet_bytes.specs.Fields.{bounds-end, sheet-short, range-read}
+use Rattle.sheet_bytes.specs.Fields.{width-right, sheet-short, low-within, range-read}
 use borrow.Author.Needs.{needs}
 use Rattle.sheet_bytes.proofs.fields.range_at.Statement.{statement}
 use Rattle.sheet_bytes.proofs.fields.range_at.Tie as tie
 
-region-place-requires : tie.Need-region-place-requires
-region-place-requires c κs = search needs
+low-place-requires : tie.Need-low-place-requires
+low-place-requires c κs = search needs
 
-add-at : tie.Need-add-at
-add-at c = let start = c .before .before in omega (arith, sheet-short (start .pre .0), bounds-end (start .pre .0) (start .args .i) (start .args .v) (c .region-place .result) (start .pre .1 .0) (start .pre .1 .1) (c .region-place .ensures))
+bound-at-requires : tie.Need-bound-at-requires
+bound-at-requires c κs =
+    let start = c .before .before in
+    (width-right (start .pre .0), omega (arith, c .low-place .ensures, low-within (start .pre .0) (start .args .i) (start .args .v) (start .pre .1 .0) (start .pre .1 .1)))
 
-mul-at : tie.Need-mul-at
-mul-at c = search needs
+add-bound-at : tie.Need-add-bound-at
+add-bound-at c =
+    let start = c .before .before .before .before in
+    omega (arith, c .before .before .low-place .ensures, sheet-short (start .pre .0), low-within (start .pre .0) (start .args .i) (start .args .v) (start .pre .1 .0) (start .pre .1 .1))
 
-add-at-2 : tie.Need-add-at-2
-add-at-2 c = let start = c .before .before in omega (arith, sheet-short (start .pre .0), bounds-end (start .pre .0) (start .args .i) (start .args .v) (c .region-place .result) (start .pre .1 .0) (start .pre .1 .1) (c .region-place .ensures))
-
-signed16-requires : tie.Need-signed16-requires
-signed16-requires c κs = let start = c .before .before in omega (arith, bounds-end (start .pre .0) (start .args .i) (start .args .v) (c .region-place .result) (start .pre .1 .0) (start .pre .1 .1) (c .region-place .ensures))
-
-add-signed16 : tie.Need-add-signed16
-add-signed16 c = let start = c .before .before .before in omega (arith, sheet-short (start .pre .0), bounds-end (start .pre .0) (start .args .i) (start .args .v) (c .before .region-place .result) (start .pre .1 .0) (start .pre .1 .1) (c .before .region-place .ensures))
-
-signed16-requires-2 : tie.Need-signed16-requires-2
-signed16-requires-2 c κs = let start = c .before .before .before in omega (arith, bounds-end (start .pre .0) (start .args .i) (start .args .v) (c .before .region-place .result) (start .pre .1 .0) (start .pre .1 .1) (c .before .region-place .ensures))
+bound-at-requires-2 : tie.Need-bound-at-requires-2
+bound-at-requires-2 c κs =
+    let start = c .before .before .before .before in
+    (width-right (start .pre .0), omega (arith, c .before .before .low-place .ensures, low-within (start .pre .0) (start .args .i) (start .args .v) (start .pre .1 .0) (start .pre .1 .1)))
 
 returns : tie.Need-returns
 returns c =
-    let start = c .before .before .before .before in
-    let low = c .before .signed16 in
-    let high = c .signed162 in
-    let place = c .before .before .region-place in
+    let start = c .before .before .before .before .before in
+    let low = c .before .before .bound-at in
+    let high = c .bound-at2 in
     let fl : SFits w64 (low .result) = record { sfits = low .ok } in
     let fh : SFits w64 (high .result) = record { sfits = high .ok } in
-    simp (toZ-ofZ w64) (range-read (start .pre .0) (start .args .i) (start .args .v) (place .result) (low .result) (high .result) (place .ensures) (low .ensures) (high .ensures))
+    simp (toZ-ofZ w64) (range-read (start .pre .0) (start .args .i) (start .args .v) (c .before .before .before .low-place .result) (low .result) (high .result) (c .before .before .before .low-place .ensures) (low .ensures) (high .ensures))
 
 pub range-at-spec : {M : Type 1} → statement M
 range-at-spec =
     tie.close
-    (tie.spec
-    region-place-requires
-    add-at
-    mul-at
-    add-at-2
-    signed16-requires
-    add-signed16
-    signed16-requires-2
-    returns)
+    (tie.spec low-place-requires bound-at-requires add-bound-at bound-at-requires-2 returns)

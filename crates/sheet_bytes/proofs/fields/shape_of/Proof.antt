@@ -1,4 +1,7 @@
 use native.Mathlib.Omega.{arith}
+use mathlib.Core.Path.{ap}
+use Prim.Native.Nat.{ℕ}
+use Rattle.sheet_bytes.specs.Layout.{countersOf, actionsOf, regionsOf}
 use borrow.Author.Needs.{needs}
 use Rattle.sheet_bytes.proofs.fields.shape_of.Statement.{statement}
 use Rattle.sheet_bytes.proofs.fields.shape_of.Tie as tie
@@ -7,22 +10,27 @@ shared-slice-read-t3 : tie.Need-shared-slice-read-t3
 shared-slice-read-t3 c = search needs
 
 cast-t4 : tie.Need-cast-t4
-cast-t4 c = omega (arith, c .shared-slice-known .given 5)
+cast-t4 c = omega (arith, c .before .shared-slice-known .given 5)
 
 shared-slice-read-t6 : tie.Need-shared-slice-read-t6
 shared-slice-read-t6 c = search needs
 
 cast-t7 : tie.Need-cast-t7
-cast-t7 c = omega (arith, c .shared-slice-known2 .given 6)
+cast-t7 c = omega (arith, c .before .before .shared-slice-known .given 6)
 
 shared-slice-read-t9 : tie.Need-shared-slice-read-t9
 shared-slice-read-t9 c = search needs
 
 cast-t10 : tie.Need-cast-t10
-cast-t10 c = omega (arith, c .shared-slice-known3 .given 7)
+cast-t10 c = omega (arith, c .before .before .before .shared-slice-known .given 7)
+
+bound-size-requires : tie.Need-bound-size-requires
+bound-size-requires c κs = search needs
 
 returns : tie.Need-returns
-returns c = search needs
+returns c =
+    let s = c .before .before .before .before .before .args .s .now in
+    ap (λ (w : ℕ). record { counters = countersOf s; actions = actionsOf s; regions = regionsOf s; width = w }) (c .bound-size .ensures)
 
 pub shape-of-spec : {M : Type 1} → statement M
 shape-of-spec =
@@ -34,4 +42,5 @@ shape-of-spec =
     cast-t7
     shared-slice-read-t9
     cast-t10
+    bound-size-requires
     returns)

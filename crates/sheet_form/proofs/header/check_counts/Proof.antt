@@ -1,3 +1,4 @@
+use native.Mathlib.Omega.{arith}
 use Rattle.answers.specs.Stages.{stop, go-on, demand-by}
 use Rattle.sheet_form.specs.Form.{checkCounts}
 use borrow.Author.Needs.{needs}
@@ -6,6 +7,9 @@ use Rattle.sheet_form.proofs.header.check_counts.Tie as tie
 
 shared-slice-read-from-to : tie.Need-shared-slice-read-from-to
 shared-slice-read-from-to c = search needs
+
+cast-from-to : tie.Need-cast-from-to
+cast-from-to c = omega (arith, c .before .shared-slice-known .given 5)
 
 from-to-requires : tie.Need-from-to-requires
 from-to-requires c κs = search needs
@@ -26,6 +30,9 @@ returns c = stop _ (demand-by 2 5 (c .before .before .demanded .ensures) (c .bef
 shared-slice-read-from-to-2 : tie.Need-shared-slice-read-from-to-2
 shared-slice-read-from-to-2 c = search needs
 
+cast-from-to-2 : tie.Need-cast-from-to-2
+cast-from-to-2 c = omega (arith, c .before .before .before .before .before .before .shared-slice-known .given 6)
+
 from-to-requires-2 : tie.Need-from-to-requires-2
 from-to-requires-2 c κs = search needs
 
@@ -45,6 +52,9 @@ returns-2 c = go-on (demand-by 2 5 (c .before .before .before .before .before .b
 shared-slice-read-from-to-3 : tie.Need-shared-slice-read-from-to-3
 shared-slice-read-from-to-3 c = search needs
 
+cast-from-to-3 : tie.Need-cast-from-to-3
+cast-from-to-3 c = omega (arith, c .before .before .before .before .before .before .before .before .before .before .before .shared-slice-known .given 7)
+
 from-to-requires-3 : tie.Need-from-to-requires-3
 from-to-requires-3 c κs = search needs
 
@@ -60,18 +70,21 @@ check-counts-spec =
     tie.close
     (tie.spec
     shared-slice-read-from-to
+    cast-from-to
     from-to-requires
     demanded-requires
     enum-told
     enum-told-2
     returns
     shared-slice-read-from-to-2
+    cast-from-to-2
     from-to-requires-2
     demanded-requires-2
     enum-told-3
     enum-told-4
     returns-2
     shared-slice-read-from-to-3
+    cast-from-to-3
     from-to-requires-3
     demanded-requires-3
     returns-3)

@@ -1,4 +1,4 @@
-use Rattle.sheet_form.specs.Header.{mark-0, mark-1, mark-2, mark-3, mark-4}
+use Rattle.sheet_form.specs.Header.{mark-0, mark-1, mark-2}
 use borrow.Author.Needs.{needs}
 use Rattle.sheet_form.proofs.header.has_mark.Statement.{statement}
 use Rattle.sheet_form.proofs.header.has_mark.Tie as tie
@@ -15,23 +15,11 @@ shared-slice-read-if2 c = search needs
 returns-2 : tie.Need-returns-2
 returns-2 c = mark-1 (c .before .before .before .before .args .s .now) (c .before .before .before .before .pre) (c .before .before .if1 .left) (c .if2 .taken)
 
-shared-slice-read-if3 : tie.Need-shared-slice-read-if3
-shared-slice-read-if3 c = search needs
-
-returns-3 : tie.Need-returns-3
-returns-3 c = mark-2 (c .before .before .before .before .before .before .args .s .now) (c .before .before .before .before .before .before .pre) (c .before .before .before .before .if1 .left) (c .before .before .if2 .left) (c .if3 .taken)
-
-shared-slice-read-if4 : tie.Need-shared-slice-read-if4
-shared-slice-read-if4 c = search needs
-
-returns-4 : tie.Need-returns-4
-returns-4 c = mark-3 (c .before .before .before .before .before .before .before .before .args .s .now) (c .before .before .before .before .before .before .before .before .pre) (c .before .before .before .before .before .before .if1 .left) (c .before .before .before .before .if2 .left) (c .before .before .if3 .left) (c .if4 .taken)
-
 shared-slice-read-result : tie.Need-shared-slice-read-result
 shared-slice-read-result c = search needs
 
-returns-5 : tie.Need-returns-5
-returns-5 c = mark-4 (c .before .before .before .before .before .before .before .before .before .args .s .now) (c .before .before .before .before .before .before .before .before .before .pre) (c .before .before .before .before .before .before .before .if1 .left) (c .before .before .before .before .before .if2 .left) (c .before .before .before .if3 .left) (c .before .if4 .left)
+returns-3 : tie.Need-returns-3
+returns-3 c = mark-2 (c .before .before .before .before .before .args .s .now) (c .before .before .before .before .before .pre) (c .before .before .before .if1 .left) (c .before .if2 .left)
 
 pub has-mark-spec : {M : Type 1} → statement M
 has-mark-spec =
@@ -41,9 +29,5 @@ has-mark-spec =
     returns
     shared-slice-read-if2
     returns-2
-    shared-slice-read-if3
-    returns-3
-    shared-slice-read-if4
-    returns-4
     shared-slice-read-result
-    returns-5)
+    returns-3)

@@ -35,7 +35,7 @@ returns-2 : tie.Need-returns-2
 returns-2 c =
     let start = c .before .before .before .before .before .before .before .before in
     go-on (c .before .before .before .before .before .demanded .ensures) (c .before .before .before .enum-told .given .1) (c .check-rules .ensures)
-    ∙ move-open (start .args .counters) (start .args .part .now) (start .args .at) (c .before .if1 .taken)
+    ∙ move-open (start .args .counters) (start .args .most) (start .args .part .now) (start .args .at) (c .before .if1 .taken)
 
 shared-slice-read-demanded-2 : tie.Need-shared-slice-read-demanded-2
 shared-slice-read-demanded-2 c = let start = c .before .before .before .before .before .before .before .before in omega (arith, move-some (start .args .counters) (length (start .args .part .now)) (start .pre .0 .1))
@@ -56,7 +56,7 @@ returns-3 : tie.Need-returns-3
 returns-3 c =
     let start = c .before .before .before .before .before .before .before .before .before .before .before in
     go-on (c .before .before .before .before .before .before .before .before .demanded .ensures) (c .before .before .before .before .before .before .enum-told .given .1) (stop _ (c .before .before .demanded2 .ensures) (c .enum-told4 .given .1))
-    ∙ move-zero (start .args .counters) (start .args .part .now) (start .args .at) (c .before .before .before .before .if1 .left)
+    ∙ move-zero (start .args .counters) (start .args .most) (start .args .part .now) (start .args .at) (c .before .before .before .before .if1 .left)
 
 check-rules-requires-2 : tie.Need-check-rules-requires-2
 check-rules-requires-2 c κs = search needs
@@ -65,7 +65,7 @@ returns-4 : tie.Need-returns-4
 returns-4 c =
     let start = c .before .before .before .before .before .before .before .before .before .before .before .before in
     go-on (c .before .before .before .before .before .before .before .before .before .demanded .ensures) (c .before .before .before .before .before .before .before .enum-told .given .1) (go-on (c .before .before .before .demanded2 .ensures) (c .before .enum-told3 .given .1) (c .check-rules2 .ensures))
-    ∙ move-zero (start .args .counters) (start .args .part .now) (start .args .at) (c .before .before .before .before .before .if1 .left)
+    ∙ move-zero (start .args .counters) (start .args .most) (start .args .part .now) (start .args .at) (c .before .before .before .before .before .if1 .left)
 
 pub check-move-spec : {M : Type 1} → statement M
 check-move-spec =

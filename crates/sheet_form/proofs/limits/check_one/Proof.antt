@@ -44,7 +44,7 @@ returns c =
     let place = 2 + 7 * start .args .v in
     c .check-zero-rule .ensures
     ∙ ap (λ (l : List ℕ). checkZeroRule l (start .args .at + place)) (rest place (start .args .part .now))
-    ∙ one-zero (start .args .counters) (start .args .part .now) (start .args .at) (start .args .v) (c .before .before .if1 .taken)
+    ∙ one-zero (start .args .counters) (start .args .most) (start .args .part .now) (start .args .at) (start .args .v) (c .before .before .if1 .taken)
 
 sub-check-rule : tie.Need-sub-check-rule
 sub-check-rule c = let start = c .before .before .before in omega (arith, rule-within (start .args .counters) (start .args .v) (length (start .args .part .now)) (start .pre .1 .1) (start .pre .0 .1))
@@ -69,8 +69,8 @@ returns-2 c =
     let start = c .before .before .before .before .before in
     let place = 2 + 7 * start .args .v in
     c .check-rule .ensures
-    ∙ ap (λ (l : List ℕ). checkRule (start .args .counters) l (start .args .at + place)) (rest place (start .args .part .now))
-    ∙ one-open (start .args .counters) (start .args .part .now) (start .args .at) (start .args .v) (c .before .before .if1 .left)
+    ∙ ap (λ (l : List ℕ). checkRule (start .args .counters) (start .args .most) l (start .args .at + place)) (rest place (start .args .part .now))
+    ∙ one-open (start .args .counters) (start .args .most) (start .args .part .now) (start .args .at) (start .args .v) (c .before .before .if1 .left)
 
 pub check-one-spec : {M : Type 1} → statement M
 check-one-spec =

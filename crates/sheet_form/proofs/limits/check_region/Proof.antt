@@ -1,7 +1,7 @@
 use lib.Dec.{ltb}
 use Rattle.answers.specs.Stages.{stop, go-on, demand-at}
 use Rattle.sheet_form.specs.Form.{checkFields}
-use Rattle.sheet_form.specs.Limits.{checkBounds, checkMoves}
+use Rattle.sheet_form.specs.Limits.{checkMoves}
 use borrow.Author.Needs.{needs}
 use Rattle.sheet_form.proofs.limits.check_region.Statement.{statement}
 use Rattle.sheet_form.proofs.limits.check_region.Tie as tie
@@ -37,7 +37,7 @@ enum-told-4 : tie.Need-enum-told-4
 enum-told-4 c = search needs
 
 returns-2 : tie.Need-returns-2
-unfolding checkFields checkBounds
+unfolding checkFields
 returns-2 c =
     let d = c .before .before .before .before .before in
     go-on (demand-at (λ l. ltb l 65535) 4 (d .before .before .label-at .ensures) (d .before .region-place .ensures) (d .demanded .ensures)) (c .before .before .before .enum-told .given .1)
@@ -47,7 +47,7 @@ check-moves-requires : tie.Need-check-moves-requires
 check-moves-requires c κs = search needs
 
 returns-3 : tie.Need-returns-3
-unfolding checkFields checkBounds checkMoves
+unfolding checkFields checkMoves
 returns-3 c =
     let d = c .before .before .before .before .before .before in
     go-on (demand-at (λ l. ltb l 65535) 4 (d .before .before .label-at .ensures) (d .before .region-place .ensures) (d .demanded .ensures)) (c .before .before .before .before .enum-told .given .1)

@@ -87,7 +87,7 @@ returns-4 c =
     go-on (c .before .before .before .before .before .before .before .before .before .before .before .before .before .demanded .ensures) (c .before .before .before .before .before .before .before .before .before .before .before .enum-told .given .1)
     (go-on (demand-by 4 _ (c .before .before .before .before .before .before .before .before .before .demanded2 .ensures) (c .before .before .before .before .before .before .before .before .before .before .source-right .ensures)) (c .before .before .before .before .before .before .before .enum-told3 .given .1)
     (go-on (demand-by 4 _ (c .before .before .before .before .before .demanded3 .ensures) (c .before .before .before .before .before .before .factor-right .ensures)) (c .before .before .before .enum-told5 .given .1)
-    (demand-by 4 _ (c .demanded4 .ensures) (offset-read (c .before .before .before .before .before .before .before .before .before .before .before .before .before .before .before .before .args .part .now) 4000000 (simp (toZ-ofZ w64) at (c .before .near-zero .ensures)) (c .before .before .signed32 .ensures)))))
+    (demand-by 4 _ (c .demanded4 .ensures) (offset-read (c .before .before .before .before .before .before .before .before .before .before .before .before .before .before .before .before .args .part .now) (c .before .before .before .before .before .before .before .before .before .before .before .before .before .before .before .before .args .most) (simp (toZ-ofZ w64) at (c .before .near-zero .ensures)) (c .before .before .signed32 .ensures)))))
 
 pub check-rule-spec : {M : Type 1} → statement M
 check-rule-spec =

@@ -9,13 +9,13 @@ use Rattle.sheet_form.proofs.limits.check_rules.Statement.{statement}
 use Rattle.sheet_form.proofs.limits.check_rules.Tie as tie
 
 abbrev Inv-loop : tie.InvT-loop
-Inv-loop part counters at v₀ v = (v ≤ counters) × (each (checkOne counters part at) v ≡ Fine)
+Inv-loop part counters most at v₀ v = (v ≤ counters) × (each (checkOne counters most part at) v ≡ Fine)
 
 abbrev μ-loop : tie.MeasureT-loop
-μ-loop part counters at v₀ v = counters - v
+μ-loop part counters most at v₀ v = counters - v
 
 loop-holds : tie.Need-loop-holds Inv-loop μ-loop
-loop-holds c = (omega arith, each-none (checkOne (c .before .args .counters) (c .before .args .part .now) (c .before .args .at)))
+loop-holds c = (omega arith, each-none (checkOne (c .before .args .counters) (c .before .args .most) (c .before .args .part .now) (c .before .args .at)))
 
 check-one-requires : tie.Need-check-one-requires Inv-loop μ-loop
 check-one-requires c κs =
@@ -31,7 +31,7 @@ enum-told-2 c = search needs
 returns : tie.Need-returns Inv-loop μ-loop
 returns c =
     let start = c .before .before .before .before .before .before in
-    loop-stop (checkOne (start .args .counters) (start .args .part .now) (start .args .at)) (c .before .before .before .before .loop .v) (start .args .counters) (c .before .before .before .before .loop .inv .1) (c .before .before .check-one .ensures) (c .enum-told2 .given .1) (c .before .before .before .loop-test .taken)
+    loop-stop (checkOne (start .args .counters) (start .args .most) (start .args .part .now) (start .args .at)) (c .before .before .before .before .loop .v) (start .args .counters) (c .before .before .before .before .loop .inv .1) (c .before .before .check-one .ensures) (c .enum-told2 .given .1) (c .before .before .before .loop-test .taken)
 
 add-v : tie.Need-add-v Inv-loop μ-loop
 add-v c = omega (arith, c .before .before .before .before .before .before .pre .0 .0)
@@ -42,12 +42,12 @@ loop-less c = omega arith
 loop-again : tie.Need-loop-again Inv-loop μ-loop
 loop-again c =
     let start = c .before .before .before .before .before .before in
-    (omega arith, loop-more (checkOne (start .args .counters) (start .args .part .now) (start .args .at)) (c .before .before .before .before .loop .v) (c .before .before .before .before .loop .inv .1) (c .before .before .check-one .ensures) (c .enum-told .given .1))
+    (omega arith, loop-more (checkOne (start .args .counters) (start .args .most) (start .args .part .now) (start .args .at)) (c .before .before .before .before .loop .v) (c .before .before .before .before .loop .inv .1) (c .before .before .check-one .ensures) (c .enum-told .given .1))
 
 returns-2 : tie.Need-returns-2 Inv-loop μ-loop
 returns-2 c =
     let start = c .before .before .before in
-    loop-end (checkOne (start .args .counters) (start .args .part .now) (start .args .at)) (c .before .loop .v) (start .args .counters) (c .before .loop .inv .1) (c .loop-test .left) (c .before .loop .inv .0)
+    loop-end (checkOne (start .args .counters) (start .args .most) (start .args .part .now) (start .args .at)) (c .before .loop .v) (start .args .counters) (c .before .loop .inv .1) (c .loop-test .left) (c .before .loop .inv .0)
 
 pub check-rules-spec : {M : Type 1} → statement M
 check-rules-spec =

@@ -1,6 +1,5 @@
 use native.Mathlib.Omega.{arith}
 use mathlib.Core.Logic.{inr}
-use borrow.Author.Needs.{needs}
 use Rattle.tables.specs.Depths.{deepened-left, deepened-to}
 use borrow.Author.Needs.{needs}
 use Rattle.tables.proofs.depths.deepen.Statement.{statement}
@@ -13,23 +12,14 @@ slice-read-if1 c = search needs
 returns : tie.Need-returns
 returns c = deepened-left 0 (λ b h. inr (omega arith))
 
+reached-depth-requires : tie.Need-reached-depth-requires
+reached-depth-requires c κs = search needs
+
 mul-if2 : tie.Need-mul-if2
 mul-if2 c = search needs
 
 slice-read-if2 : tie.Need-slice-read-if2
 slice-read-if2 c = search needs
-
-returns-2 : tie.Need-returns-2
-returns-2 c = deepened-left 0 (λ b h. inr (omega arith))
-
-reached-depth-requires : tie.Need-reached-depth-requires
-reached-depth-requires c κs = search needs
-
-mul-if3 : tie.Need-mul-if3
-mul-if3 c = search needs
-
-slice-read-if3 : tie.Need-slice-read-if3
-slice-read-if3 c = search needs
 
 add-bounds : tie.Need-add-bounds
 add-bounds c = search needs
@@ -43,14 +33,14 @@ slice-write-bounds c = search needs
 same-length : tie.Need-same-length
 same-length c = search needs
 
-returns-3 : tie.Need-returns-3
-returns-3 c = let r = c .before .before .reached-depth in deepened-to (r .result) (c .before .before .before .before .before .before .before .before .before .before .pre .1 .0) (omega arith) (r .ensures .1)
+returns-2 : tie.Need-returns-2
+returns-2 c = let r = c .before .before .reached-depth in deepened-to (r .result) (c .before .before .before .before .before .before .before .before .pre .1 .0) (omega arith) (r .ensures .1)
 
 same-length-2 : tie.Need-same-length-2
 same-length-2 c = search needs
 
-returns-4 : tie.Need-returns-4
-returns-4 c = let r = c .before .before .reached-depth in deepened-left (r .result) (r .ensures .1)
+returns-3 : tie.Need-returns-3
+returns-3 c = let r = c .before .before .reached-depth in deepened-left (r .result) (r .ensures .1)
 
 pub deepen-spec : {M : Type 1} → statement M
 deepen-spec =
@@ -58,16 +48,13 @@ deepen-spec =
     (tie.spec
     slice-read-if1
     returns
+    reached-depth-requires
     mul-if2
     slice-read-if2
-    returns-2
-    reached-depth-requires
-    mul-if3
-    slice-read-if3
     add-bounds
     mul-bounds
     slice-write-bounds
     same-length
-    returns-3
+    returns-2
     same-length-2
-    returns-4)
+    returns-3)

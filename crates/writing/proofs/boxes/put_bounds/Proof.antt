@@ -4,21 +4,21 @@ use mathlib.Core.Path.{_≡_, refl, ap, _∙_}
 use lib.ListN.{length}
 use Rattle.systems.specs.Lists.{collect}
 use Rattle.writing.specs.Stored.{stored, stored-start, stored-more}
-use Rattle.writing.specs.BoxBytes.{boundBytes, boundsBytes, bound-length}
+use Rattle.writing.specs.BoxBytes.{boundBytes, boundsBytes, bound-length, bound-room}
 use Rattle.writing.proofs.boxes.put_bounds.Statement.{statement}
 use Rattle.writing.proofs.boxes.put_bounds.Tie as tie
 
 abbrev Inv-loop : tie.InvT-loop
-Inv-loop cells n i out₀ at b₀ out b =
-    (b ≤ n) × (length out ≡ length out₀) × (out ≡ stored out₀ at (collect (boundBytes cells i) b))
+Inv-loop cells width n i out₀ at b₀ out b =
+    (b ≤ n) × (length out ≡ length out₀) × (out ≡ stored out₀ at (collect (boundBytes width cells i) b))
 
 abbrev μ-loop : tie.MeasureT-loop
-μ-loop cells n i out₀ at b₀ out b = n - b
+μ-loop cells width n i out₀ at b₀ out b = n - b
 
 loop-holds : tie.Need-loop-holds Inv-loop μ-loop
 loop-holds c =
     let start = c .before in
-    (omega arith, refl, stored-start (boundBytes (start .args .cells .now) (start .args .i)) (start .args .out .now) (start .args .at))
+    (omega arith, refl, stored-start (boundBytes (start .args .width) (start .args .cells .now) (start .args .i)) (start .args .out .now) (start .args .at))
 
 mul-put-cell : tie.Need-mul-put-cell Inv-loop μ-loop
 mul-put-cell c = omega arith
@@ -30,15 +30,20 @@ add-put-cell-2 : tie.Need-add-put-cell-2 Inv-loop μ-loop
 add-put-cell-2 c = omega arith
 
 mul-put-cell-2 : tie.Need-mul-put-cell-2 Inv-loop μ-loop
-mul-put-cell-2 c = omega arith
+mul-put-cell-2 c =
+    let start = c .before .before .before .before in
+    omega (arith, bound-room (start .args .width) (c .before .before .loop .b) (start .args .n) (c .before .loop-test .taken))
 
 add-put-cell-3 : tie.Need-add-put-cell-3 Inv-loop μ-loop
-add-put-cell-3 c = omega arith
+add-put-cell-3 c =
+    let start = c .before .before .before .before in
+    omega (arith, bound-room (start .args .width) (c .before .before .loop .b) (start .args .n) (c .before .loop-test .taken))
 
 put-cell-requires : tie.Need-put-cell-requires Inv-loop μ-loop
 put-cell-requires c κs =
     let start = c .before .before .before .before in
-    (omega arith, (start .pre .1 .1 .0 (c .before .before .loop .b) (c .before .loop-test .taken), omega arith))
+    let b = c .before .before .loop .b in
+    (start .pre .0, (omega arith, (start .pre .1 .1 .1 .0 b (c .before .loop-test .taken), omega (arith, bound-room (start .args .width) b (start .args .n) (c .before .loop-test .taken)))))
 
 add-b : tie.Need-add-b Inv-loop μ-loop
 add-b c = omega arith
@@ -53,10 +58,11 @@ loop-again c =
     let f = c .before .before .put-cell in
     let cells = start .args .cells .now in
     let i = start .args .i in
-    let place = start .args .at + 2 * at .b in (
+    let w = start .args .width in
+    let place = start .args .at + w * at .b in (
       omega arith,
       omega arith,
-      stored-more (boundBytes cells i) (start .args .out .now) (at .out) (f .last .1 .1 .0) (start .args .at) place (at .b) (at .inv .2) (f .ensures) (omega (arith, bound-length cells i (at .b))),
+      stored-more (boundBytes w cells i) (start .args .out .now) (at .out) (f .last .1 .1 .1 .0) (start .args .at) place (at .b) (at .inv .2) (f .ensures) (omega (arith, bound-length w cells i (at .b))),
     )
 
 same-length : tie.Need-same-length Inv-loop μ-loop
@@ -68,7 +74,7 @@ returns c =
     let start = c .before .before .before in
     let at = c .before .loop in
     let e : at .b ≡ start .args .n = omega arith in
-    at .inv .2 ∙ ap (λ (k : ℕ). stored (start .args .out .now) (start .args .at) (collect (boundBytes (start .args .cells .now) (start .args .i)) k)) e
+    at .inv .2 ∙ ap (λ (k : ℕ). stored (start .args .out .now) (start .args .at) (collect (boundBytes (start .args .width) (start .args .cells .now) (start .args .i)) k)) e
 
 pub put-bounds-spec : {M : Type 1} → statement M
 put-bounds-spec =

@@ -26,25 +26,26 @@ add-put-bounds c = search needs
 
 put-bounds-requires : tie.Need-put-bounds-requires
 put-bounds-requires c κs =
-    let start = c .before .before .before .before in
+    let start = c .before .before .before .before .before in
     let d = start .args .out .now in
     let state = stateIn (start .args .homes .now) (start .args .i) in
-    (start .pre .0, ((omega arith, start .pre .1 .1 .0 .1), (start .pre .1 .1 .1 .0, omega (arith, length-set d (start .args .at) state))))
+    let (t, v, l) = start .pre .1 .1 .0 in
+    (t, (start .pre .0, ((omega arith, l), (start .pre .1 .1 .1 .0, omega (arith, length-set d (start .args .at) state)))))
 
 same-length : tie.Need-same-length
 same-length c =
-    let start = c .before .before .before .before .before .before .before in
+    let start = c .before .before .before .before .before .before .before .before in
     let d = start .args .out .now in
     let state = stateIn (start .args .homes .now) (start .args .i) in
     omega (arith, length-set d (start .args .at) state)
 
 returns : tie.Need-returns
 returns c =
-    let start = c .before .before .before .before .before .before .before in
+    let start = c .before .before .before .before .before .before .before .before in
     let d = start .args .out .now in
     let state = stateIn (start .args .homes .now) (start .args .i) in
     let f = c .before .before .put-bounds in
-    box-stored (start .args .counters) (start .args .cells .now) (start .args .homes .now) d (f .last .1 .1 .1 .0) (start .args .i) (start .args .at) (start .pre .1 .1 .0 .0) (f .ensures)
+    box-stored (start .args .shape .width) (start .args .shape .counters) (start .args .cells .now) (start .args .homes .now) d (f .last .1 .1 .1 .1 .0) (start .args .i) (start .args .at) (start .pre .1 .1 .0 .1) (f .ensures)
 
 pub put-box-spec : {M : Type 1} → statement M
 put-box-spec =
