@@ -82,6 +82,13 @@ uint8_t pilfstera_make(const uint8_t *sheet, size_t length, uint8_t *chart, size
    accepted. */
 uint8_t pilfstera_check_chart(const uint8_t *chart, size_t length, size_t *returned);
 
+/* The settling depth of a chart: refusals 1 to 4 and 12 to 14, those of its check. `length` is the chart's own, not that of its buffer.
+   `returned` is the depth d, the length of the sequences that a bench plan needs: every two blocks are told apart by some sequence of at
+   most d actions, and where d is above 0, some two of them by none shorter. A sequence tells two blocks apart if what a run writes from
+   the one differs from what it writes from the other, where the first entry is the block's own label. For N blocks, d is at most N less
+   the number of different labels, so never above 253; it is 0 for one block, and where no two blocks have the same label. */
+uint8_t pilfstera_depth(const uint8_t *chart, size_t length, size_t *returned);
+
 /* Runs `count` actions on a sheet or on a chart: refusals of the sheet or chart, then 3, 11 and 10. Writes the label of the start, then an
    entry for each action: the label where it leads, or PILFSTERA_SKIPPED where it is barred. A barred action changes nothing, and the
    run goes on. `room` counts entries and must be above `count`. `returned` is the number of entries written, `count` + 1, from the

@@ -151,6 +151,7 @@ mod library {
             returned: *mut usize,
         ) -> u8;
         pub(super) fn pilfstera_check_chart(chart: *const u8, length: usize, returned: *mut usize) -> u8;
+        pub(super) fn pilfstera_depth(chart: *const u8, length: usize, returned: *mut usize) -> u8;
         pub(super) fn pilfstera_run_sheet(
             sheet: *const u8,
             length: usize,
@@ -173,7 +174,7 @@ mod library {
         ) -> u8;
     }
 
-    type CheckFunction = unsafe extern "C" fn(*const u8, usize, *mut usize) -> u8;
+    type BytesFunction = unsafe extern "C" fn(*const u8, usize, *mut usize) -> u8;
     type RunFunction = unsafe extern "C" fn(*const u8, usize, *const u8, usize, *mut u16, usize, *mut usize, *mut usize) -> u8;
 
     /// The value where the library gave 0, else the refusal.
@@ -185,11 +186,13 @@ mod library {
         }
     }
 
-    fn check(function: CheckFunction, bytes: &[u8]) -> Result<(), Refusal> {
+    /// What a function gives that takes a sheet or a chart and nothing else.
+    fn ask(function: BytesFunction, bytes: &[u8]) -> Result<usize, Refusal> {
         let mut returned = 0;
-        // SAFETY: both checks take a slice's pointer and length, and a number of our own to write; they ask nothing of the bytes.
+        // SAFETY: both checks and the depth take a slice's pointer and length, and a number of our own to write; they ask nothing of the
+        // bytes.
         let number = unsafe { function(bytes.as_ptr(), bytes.len(), &mut returned) };
-        answer(number, returned, ())
+        answer(number, returned, returned)
     }
 
     fn run(function: RunFunction, bytes: &[u8], actions: &[u8], entries: &mut [u16]) -> Result<Run, Refusal> {
@@ -215,7 +218,7 @@ mod library {
 
     /// Accepts a sheet, or refuses it with 1 to 8.
     pub fn check_sheet(sheet: &[u8]) -> Result<(), Refusal> {
-        check(pilfstera_check_sheet, sheet)
+        ask(pilfstera_check_sheet, sheet).map(|_| ())
     }
 
     /// Makes a sheet's chart and box list, and gives the number of blocks; refusals 1 to 10. Both are written from the front of their
@@ -242,7 +245,16 @@ mod library {
 
     /// Accepts a chart just if it obeys the chart rules, or refuses it with 1 to 4 or 12 to 14. The slice ends where the chart ends.
     pub fn check_chart(chart: &[u8]) -> Result<(), Refusal> {
-        check(pilfstera_check_chart, chart)
+        ask(pilfstera_check_chart, chart).map(|_| ())
+    }
+
+    /// The settling depth d of a chart, the length of the sequences that a bench plan needs: every two blocks are told apart by some
+    /// sequence of at most d actions, and where d is above 0, some two of them by none shorter. A sequence tells two blocks apart if what
+    /// a run writes from the one differs from what it writes from the other, where the first entry is the block's own label. For N blocks,
+    /// d is at most N less the number of different labels, so never above 253; it is 0 for one block, and where no two blocks have the same
+    /// label. It refuses what [`check_chart`] does.
+    pub fn depth(chart: &[u8]) -> Result<usize, Refusal> {
+        ask(pilfstera_depth, chart)
     }
 
     /// Runs a sequence of actions from a sheet's start and writes the label there, then an entry for each action: the label where it leads,

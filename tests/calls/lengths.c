@@ -1,4 +1,4 @@
-/* Writes the lengths and limits of the header, as C and as C++, and the refusal of an empty sheet. */
+/* Writes the lengths and limits of the header, as C and as C++, the refusal of an empty sheet and the depth of the sample chart. */
 #include "pilfstera.h"
 #include <stdio.h>
 
@@ -7,7 +7,7 @@ int main(void) {
     uint8_t narrow[PILFSTERA_LIST_LENGTH(1, PILFSTERA_MOST_BLOCKS, PILFSTERA_MOST_COUNTERS)];
     uint8_t wide[PILFSTERA_LIST_LENGTH(2, PILFSTERA_MOST_BLOCKS, PILFSTERA_MOST_COUNTERS)];
     uint16_t entries[PILFSTERA_RUN_ROOM(PILFSTERA_ACTIONS)];
-    uint8_t sheet[1] = {0};
+    uint8_t sheet[1] = {0}, sample[] = {'B', 'C', 'H', 1, 0, 1, 3, 10, 0, 1, 10, 0, 2, 20, 0, 255};
     size_t returned = 1;
     printf("%d %d %d %d\n", PILFSTERA_SHEET, PILFSTERA_CHART, PILFSTERA_LIST, PILFSTERA_ACTIONS);
     printf("%d %d\n", PILFSTERA_VERSION_1_SHEET, PILFSTERA_VERSION_1_LIST);
@@ -17,5 +17,7 @@ int main(void) {
     printf("%d\n", PILFSTERA_SKIPPED);
     unsigned refused = pilfstera_check_sheet(sheet, 0, &returned);
     printf("refused %u at %zu\n", refused, returned);
+    if (pilfstera_depth(sample, sizeof sample, &returned) == 0)
+        printf("depth %zu\n", returned);
     return 0;
 }

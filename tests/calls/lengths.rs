@@ -1,4 +1,5 @@
-//! Writes the lengths and limits of include/pilfstera.rs, taken in by `include!`, and the refusal of an empty sheet without its words.
+//! Writes the lengths and limits of include/pilfstera.rs, taken in by `include!`, the refusal of an empty sheet without its words and
+//! the depth of the sample chart.
 
 mod pilfstera {
     include!("../../include/pilfstera.rs");
@@ -19,5 +20,8 @@ fn main() {
     println!("{}", entries[0]);
     if let Err(Refusal { number, returned }) = check_sheet(&[]) {
         println!("refused {number} at {returned}");
+    }
+    if let Ok(depth) = depth(b"BCH\x01\x00\x01\x03\x0A\x00\x01\x0A\x00\x02\x14\x00\xFF") {
+        println!("depth {depth}");
     }
 }

@@ -1,6 +1,8 @@
-//! Charts, read straight from document 01: the chart rules, told apart pair by pair, and the reading of an action sequence.
+//! Charts, read straight from document 01: the chart rules, blocks told apart pair by pair, the settling depth, and the reading of an action
+//! sequence.
 
 use crate::sheets::{Reading, Refusal, SKIPPED};
+use std::collections::{HashSet, VecDeque};
 
 const BARRED: u8 = 255;
 
@@ -13,6 +15,8 @@ pub struct Record {
 pub struct Chart {
     pub actions: usize,
     pub records: Vec<Record>,
+    /// The settling depth, which an accepted chart has; 0 until it is accepted.
+    pub depth: usize,
 }
 
 fn refuse<T>(number: u8, returned: usize) -> Result<T, Refusal> {
@@ -40,7 +44,7 @@ fn read(bytes: &[u8]) -> Result<Chart, Refusal> {
         targets: r[2..].to_vec(),
     };
     let records = bytes[7..].chunks(2 + actions).enumerate().map(record).collect();
-    Ok(Chart { actions, records })
+    Ok(Chart { actions, records, depth: 0 })
 }
 
 /// All targets with their places, in file order.
@@ -78,35 +82,59 @@ fn bars(record: &Record) -> Vec<bool> {
     record.targets.iter().map(|t| *t == BARRED).collect()
 }
 
-/// For each two blocks whether some sequence tells them apart: marks spread backwards from labels that differ.
-fn told_apart(chart: &Chart) -> Vec<Vec<bool>> {
-    let records = &chart.records;
-    let apart = |i: usize, j: usize| records[i].label != records[j].label;
-    let count = records.len();
-    let mut marks: Vec<Vec<bool>> = (0..count).map(|i| (0..count).map(|j| apart(i, j)).collect()).collect();
-    loop {
-        let mut changed = false;
-        for i in 0..count {
-            for j in 0..count {
-                let mut pairs = records[i].targets.iter().zip(&records[j].targets);
-                let differs = |(t, u): (&u8, &u8)| match (*t, *u) {
-                    (BARRED, BARRED) => false,
-                    (BARRED, _) | (_, BARRED) => true,
-                    (t, u) => marks[t as usize][u as usize],
-                };
-                if !marks[i][j] && pairs.any(differs) {
-                    marks[i][j] = true;
-                    changed = true;
-                }
-            }
-        }
-        if !changed {
-            return marks;
-        }
+/// What a reading has for an action at a block, and the block where it goes on.
+fn act(chart: &Chart, block: usize, action: usize) -> (u16, usize) {
+    match chart.records[block].targets[action] {
+        BARRED => (SKIPPED, block),
+        target => (chart.records[target as usize].label, target as usize),
     }
 }
 
-/// Refusals 1 to 4 and 12 to 14, and the chart.
+/// The entries of the reading of an action sequence from a block.
+fn entries(chart: &Chart, mut block: usize, actions: &[u8]) -> Vec<u16> {
+    let mut entries = vec![chart.records[block].label];
+    for a in actions {
+        let (entry, next) = act(chart, block, *a as usize);
+        entries.push(entry);
+        block = next;
+    }
+    entries
+}
+
+/// For each two blocks the length of the shortest sequence that reads differently from them, if there is one. The search is breadth-first over
+/// pairs of blocks. It begins at those whose labels differ, which need no action, and at those where one action writes different entries. Where
+/// it writes the same, a sequence for the two blocks to which it leads is one for the two before, with this action in front.
+fn shortest(chart: &Chart) -> Vec<Vec<Option<usize>>> {
+    let count = chart.records.len();
+    let mut before = vec![vec![Vec::new(); count]; count];
+    let (mut at_once, mut by_one) = (Vec::new(), Vec::new());
+    for i in 0..count {
+        for j in 0..count {
+            if chart.records[i].label != chart.records[j].label {
+                at_once.push((i, j, 0));
+            }
+            for a in 0..chart.actions {
+                let ((entry, to), (other, with)) = (act(chart, i, a), act(chart, j, a));
+                if entry != other {
+                    by_one.push((i, j, 1));
+                } else {
+                    before[to][with].push((i, j));
+                }
+            }
+        }
+    }
+    let mut lengths = vec![vec![None; count]; count];
+    let mut queue: VecDeque<_> = at_once.into_iter().chain(by_one).collect();
+    while let Some((i, j, length)) = queue.pop_front() {
+        if lengths[i][j].is_none() {
+            lengths[i][j] = Some(length);
+            queue.extend(before[i][j].iter().map(|(k, l)| (*k, *l, length + 1)));
+        }
+    }
+    lengths
+}
+
+/// Refusals 1 to 4 and 12 to 14, and the chart. Its settling depth is the greatest of the shortest lengths, 0 for one block.
 pub fn check(bytes: &[u8]) -> Result<Chart, Refusal> {
     let chart = read(bytes)?;
     let count = chart.records.len();
@@ -122,24 +150,35 @@ pub fn check(bytes: &[u8]) -> Result<Chart, Refusal> {
     if let Some(place) = later(&chart, |i, j| records[i].label == records[j].label && bars(&records[i]) != bars(&records[j])) {
         return refuse(13, place);
     }
-    let marks = told_apart(&chart);
-    if let Some(place) = later(&chart, |i, j| !marks[i][j]) {
+    let lengths = shortest(&chart);
+    if let Some(place) = later(&chart, |i, j| lengths[i][j].is_none()) {
         return refuse(14, place);
     }
-    Ok(chart)
+    let depth = lengths.into_iter().flatten().flatten().max().unwrap_or(0);
+    Ok(Chart { depth, ..chart })
+}
+
+/// The settling depth by its words alone: what all sequences of no action, of one, of two and so on read from each block, until it is another from each.
+/// Nothing where that is more than so many entries.
+pub fn depth_by_listing(chart: &Chart, most: usize) -> Option<usize> {
+    let (count, actions) = (chart.records.len(), 0..chart.actions as u8);
+    let (mut length, mut sequences, mut read) = (0, vec![Vec::new()], vec![Vec::new(); count]);
+    while count * (read[0].len() + sequences.len() * (length + 1)) <= most {
+        for (block, all) in read.iter_mut().enumerate() {
+            sequences.iter().for_each(|sequence| all.extend(entries(chart, block, sequence)));
+        }
+        if read.iter().collect::<HashSet<_>>().len() == count {
+            return Some(length);
+        }
+        sequences = sequences.iter().flat_map(|s| actions.clone().map(move |a| [s.as_slice(), &[a]].concat())).collect();
+        length += 1;
+    }
+    None
 }
 
 /// The reading of an action sequence from block 0 of an accepted chart.
 pub fn reading(chart: &Chart, actions: &[u8]) -> Reading {
-    let mut block = 0;
-    let mut entries = vec![chart.records[block].label];
-    for a in actions {
-        let target = chart.records[block].targets[*a as usize];
-        if target != BARRED {
-            block = target as usize;
-        }
-        entries.push(if target == BARRED { SKIPPED } else { chart.records[block].label });
-    }
+    let entries = entries(chart, 0, actions);
     // no label is what a barred action writes, so the entries tell the first
     let barred = entries.iter().position(|e| *e == SKIPPED).map(|i| i - 1);
     Reading { entries, barred }

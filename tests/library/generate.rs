@@ -307,6 +307,17 @@ pub fn refused(rng: &mut Random, accepted: &[u8], number: u8) -> Vec<u8> {
     out
 }
 
+/// A chart of blocks by label and targets, where 255 is barred.
+pub fn encode_chart(blocks: &[(u16, Vec<u8>)]) -> Vec<u8> {
+    let mut out = b"BCH\x01\x00".to_vec();
+    out.extend([blocks[0].1.len() as u8, blocks.len() as u8]);
+    for (label, targets) in blocks {
+        put(&mut out, i64::from(*label), 2);
+        out.extend(targets);
+    }
+    out
+}
+
 /// Small charts: accepted ones, and ones that break a rule here or there.
 pub fn chart(rng: &mut Random) -> Vec<u8> {
     let (actions, count) = (1 + rng.below(3), 1 + rng.below(7));

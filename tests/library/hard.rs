@@ -132,7 +132,7 @@ fn small_doubling(rng: &mut Random) -> Sheet {
     if rng.one_in(6) {
         return doubling(rng.between(56, 64), rng.between(32, 36), rng.pick(&[2, -2]), mirrored);
     }
-    if rng.one_in(10) {
+    if rng.one_in(6) {
         return doubling(rng.between(252, 256), rng.between(1, 4), factor, mirrored);
     }
     doubling(rng.between(1, 20), rng.between(1, 120), factor, mirrored)

@@ -1,11 +1,13 @@
-//! The static library's five functions: the safe ones of include/pilfstera.rs, and in `raw` each as a C program calls it. The file is
+//! The static library's six functions: the safe ones of include/pilfstera.rs, and in `raw` each as a C program calls it. The file is
 //! included, not named by its path, so that its declarations of the C functions are in reach here.
 
 include!("../../include/pilfstera.rs");
 
 /// For calls with noise in the numbers that are stored through pointers: the safe functions have numbers of their own there.
 pub mod raw {
-    use super::{pilfstera_check_chart, pilfstera_check_sheet, pilfstera_make, pilfstera_run_chart, pilfstera_run_sheet};
+    use super::{
+        pilfstera_check_chart, pilfstera_check_sheet, pilfstera_depth, pilfstera_make, pilfstera_run_chart, pilfstera_run_sheet,
+    };
 
     pub fn check_sheet(sheet: &[u8], returned: &mut usize) -> u8 {
         // SAFETY: a slice's pointer and length, and a live number; the function has no `requires`.
@@ -15,6 +17,11 @@ pub mod raw {
     pub fn check_chart(chart: &[u8], returned: &mut usize) -> u8 {
         // SAFETY: as above.
         unsafe { pilfstera_check_chart(chart.as_ptr(), chart.len(), returned) }
+    }
+
+    pub fn depth(chart: &[u8], returned: &mut usize) -> u8 {
+        // SAFETY: as above.
+        unsafe { pilfstera_depth(chart.as_ptr(), chart.len(), returned) }
     }
 
     pub fn run_sheet(sheet: &[u8], actions: &[u8], entries: &mut [u16], returned: &mut usize, barred: &mut usize) -> u8 {

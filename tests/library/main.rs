@@ -2,15 +2,19 @@
 //! It stops at the first difference, with the bytes in hexadecimal, and fails if some kind of answer never came.
 
 mod charts;
+mod depth;
 mod generate;
 mod hard;
 mod library;
+mod machines;
 mod partition;
 mod random;
+mod rows;
 mod sheets;
 mod versions;
 mod wrapper;
 
+use charts::Chart;
 use library::raw;
 use random::Random;
 use sheets::{Made, Reading, Refusal, Sheet, SKIPPED};
@@ -236,18 +240,24 @@ impl Test {
             }
         }
         wrapper::lengths(bytes, sheet, made.blocks);
-        let checked = self.check("chart", &made.chart);
-        same("check of the chart made", bytes, checked, (0, 0));
+        let checked = self.checked_chart(&made.chart);
+        same("check of the chart made", bytes, checked.map(|_| ()), Ok(()));
         self.runs(&[("sheet", bytes), ("chart", &made.chart)], sheet.actions, read);
         "charted"
     }
 
-    /// Check and runs of any bytes, taken for a chart.
-    fn chart(&mut self, bytes: &[u8]) {
+    /// Check and settling depth of any bytes, taken for a chart.
+    fn checked_chart(&mut self, bytes: &[u8]) -> Result<Chart, Refusal> {
         let checked = charts::check(bytes);
         let told_check = self.check("chart", bytes);
         same("check of a chart", bytes, told_check, told(checked.as_ref().map(|_| 0).map_err(|r| *r)));
-        match checked {
+        self.depth(bytes, &checked);
+        checked
+    }
+
+    /// Check, settling depth and runs of any bytes, taken for a chart.
+    fn chart(&mut self, bytes: &[u8]) {
+        match self.checked_chart(bytes) {
             Ok(chart) => {
                 self.count("chart: accepted");
                 self.runs(&[("chart", bytes)], chart.actions, |actions| charts::reading(&chart, actions));
@@ -435,6 +445,7 @@ fn kinds() -> Vec<String> {
     all.extend(numbers("run on a sheet: refused ", &[3, 10, 11]));
     all.extend(numbers("run on a chart: refused ", &[3, 10, 11]));
     all.extend(versions::kinds());
+    all.extend(depth::kinds());
     let hard = hard::SMALL.iter().flat_map(|(kind, _)| ["charted", "refused 9"].map(|came| format!("{kind}: {came}")));
     all.extend(hard);
     let others = [
@@ -469,6 +480,7 @@ fn main() {
     random_sheets(&mut test, 2, count as usize / 2);
     grids(&mut test, count as usize / 40);
     random_charts(&mut test, count as usize);
+    depth::test(&mut test, count as usize);
     hard_sheets(&mut test, count as usize / 60);
     for (kind, times) in &test.kinds {
         println!("{times:8} {kind}");

@@ -1,5 +1,8 @@
-//! The coarsest partition of numbers that refines a given one and that partial functions respect. A part is split by the preimages of the
-//! others; of the two halves of a part only the smaller is tried as a splitter again (Hopcroft), so that many rounds cost little.
+//! The coarsest partition of numbers that refines a given one and that partial functions respect, and its parts in the order in which a walk
+//! from one number names them. A part is split by the preimages of the others; of the two halves of a part only the smaller is tried as a
+//! splitter again (Hopcroft), so that many rounds cost little.
+
+use std::collections::HashMap;
 
 /// Where a function is not defined.
 pub const NONE: u32 = u32::MAX;
@@ -106,4 +109,20 @@ pub fn refine(names: &[u32], next: &[u32], functions: usize) -> Vec<u32> {
         }
     }
     partition.part
+}
+
+/// Numbers that stand for the parts that the functions lead to from a start, as first named, and the place there of each such part.
+pub fn reach(start: usize, part: &[u32], next: &[u32], functions: usize) -> (Vec<usize>, HashMap<u32, usize>) {
+    let (mut order, mut place) = (vec![start], HashMap::from([(part[start], 0)]));
+    let mut at = 0;
+    while at < order.len() {
+        for to in &next[order[at] * functions..][..functions] {
+            if *to != NONE && !place.contains_key(&part[*to as usize]) {
+                place.insert(part[*to as usize], order.len());
+                order.push(*to as usize);
+            }
+        }
+        at += 1;
+    }
+    (order, place)
 }

@@ -2,7 +2,7 @@
 //! them is refined by labels and targets until nothing changes, and the blocks are those that the start reaches. What version 2 of the sheet
 //! changes is document 02's.
 
-use crate::partition::{refine, NONE as BARRED};
+use crate::partition::{reach, refine, NONE as BARRED};
 use std::collections::HashMap;
 
 #[derive(Clone, Copy, PartialEq, Eq, Debug)]
@@ -300,24 +300,6 @@ fn parts(listed: &Listed) -> Vec<u32> {
     refine(&labels, &listed.next, listed.sheet.actions)
 }
 
-/// The numbers of the configurations that stand for the blocks, as first named, and the block of each part.
-fn reach(listed: &Listed, part: &[u32]) -> (Vec<usize>, HashMap<u32, usize>) {
-    let start = listed.number(&listed.sheet.start).expect("the start is in a region");
-    let (mut order, mut block) = (vec![start], HashMap::from([(part[start], 0)]));
-    let (mut at, actions) = (0, listed.sheet.actions);
-    while at < order.len() {
-        for a in 0..actions {
-            let to = listed.next[order[at] * actions + a];
-            if to != BARRED && !block.contains_key(&part[to as usize]) {
-                block.insert(part[to as usize], order.len());
-                order.push(to as usize);
-            }
-        }
-        at += 1;
-    }
-    (order, block)
-}
-
 /// Low and high of each counter in each block. Every block is a box, so it has as many members as its box has configurations.
 fn boxes(listed: &Listed, part: &[u32], block: &HashMap<u32, usize>) -> Vec<[(i64, i64); 3]> {
     let mut found = vec![([(i64::MAX, i64::MIN); 3], 0); block.len()];
@@ -371,7 +353,8 @@ pub fn check_landing(sheet: &Sheet) -> Result<(), Refusal> {
 pub fn make(sheet: &Sheet) -> Result<Made, Refusal> {
     let listed = list(sheet)?;
     let part = parts(&listed);
-    let (order, block) = reach(&listed, &part);
+    let start = listed.number(&sheet.start).expect("the start is in a region");
+    let (order, block) = reach(start, &part, &listed.next, sheet.actions);
     if order.len() > 255 {
         return refuse(9, 0);
     }

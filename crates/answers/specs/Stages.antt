@@ -88,6 +88,15 @@ pub each-all : (f : ℕ → Checked) (n : ℕ) → ((i : ℕ) → i < n → f i 
 each-all f zero h = each-none f
 each-all f (suc n) h = each-one f n (each-all f n (λ i k. h i (omega arith))) ∙ h n (omega arith)
 
+-- Two searches whose stages agree for as long as all before have passed give the same.
+pub each-agree : (f g : ℕ → Checked) (n : ℕ) → ((i : ℕ) → i < n → each f i ≡ Fine → f i ≡ g i) → each f n ≡ each g n
+each-agree f g zero e = each-none f ∙ sym (each-none g)
+each-agree f g (suc n) e = go (each f n) refl (each-agree f g n (λ i h k. e i (omega arith) k))
+  where
+    go : (r : Checked) → each f n ≡ r → each f n ≡ each g n → each f (suc n) ≡ each g (suc n)
+    go Fine k q = each-one f n k ∙ e n (omega arith) k ∙ sym (each-one g n (sym q ∙ k))
+    go (Refused m p) k q = each-later f n k ∙ sym (each-later g n (sym q ∙ k))
+
 -- a test that passed, and one that failed
 pub demand-passed : (t : Bool) (n p : ℕ) → t ≡ true → Fine ≡ demand t n p
 unfolding demand

@@ -1,30 +1,28 @@
 -- A chart is accepted exactly where it obeys the chart rules.
 use mathlib.Core.Path.{_≡_, refl, sym, ap, _∙_}
-use mathlib.Core.Logic.{_↔_, _⊎_, inl, inr, ⊎-elim, Equivalence}
+use mathlib.Core.Logic.{_↔_, _⊎_, inl, inr, ⊎-elim}
 use mathlib.Core.Bool.{Bool, true, false, not, _||_}
 use mathlib.Core.List.{List}
-use mathlib.Core.Option.{Option, some, none}
-use Prim.Native.Nat.{ℕ, zero, suc, _≤_, _<_}
+use Prim.Native.Nat.{ℕ, _≤_, _<_}
 use native.Mathlib.Omega.{arith}
 use native.Mathlib.Nat.{eq-or-lt-of-le}
-use native.Mathlib.Decide.{decLe, ℕ-discrete}
-use lib.Dec.{T, eqb, ltb, leb}
+use native.Mathlib.Decide.{ℕ-discrete}
+use lib.Dec.{eqb, ltb, leb}
 use lib.ListN.{length, getD, take}
 use lib.Seq.{ext-getD, getD-take, length-take-le}
 use borrow.Author.Tests.{ltb-true, leb-true, eqb-true, lt-ltb, le-leb, eq-eqb, ne-eqb}
-use Rattle.systems.specs.Search.{all, least}
-use Rattle.systems.specs.Laws.{least-tells, eqb-tells, true-is, is-true, both, all-true, Least, least-least, least-lt}
+use Rattle.systems.specs.Search.{all}
+use Rattle.systems.specs.Laws.{eqb-tells, true-is, is-true, all-true}
 use Rattle.answers.specs.declared.Checked.{Checked}
 use Rattle.answers.specs.declared.Checked.the-variants.{Fine}
 use Rattle.answers.specs.Stages.{andThen, demand, each, passed, then-fine, demand-fine, each-fine, each-all}
 use Rattle.answers.specs.Loops.{demand-yes, or-first, or-second}
 use Rattle.model.specs.Blocks.{chartMark}
-use Rattle.model.specs.Chart.{actionsOf, blocksOf, recordAt, labelOf, targetOf, nextIn, nextUnnamed, sameTarget, refines, roundClass, ToldApart, ChartRules}
-use Rattle.model.specs.Rounds.{TargetsRight, rounds-told}
+use Rattle.model.specs.Chart.{actionsOf, blocksOf, recordAt, labelOf, targetOf, nextIn, nextUnnamed, roundClass, ToldApart, ChartRules}
+use Rattle.model.specs.Rounds.{TargetsRight, class-own, rounds-told}
 use Rattle.chart_bytes.specs.Header.{targetAt, marked, lengthCheck, headerCheck}
 use Rattle.chart_bytes.specs.Shape.{Shaped, record-start}
 use Rattle.chart_bytes.specs.HeaderLaws.{mark-good, counts-good, length-good, header-passed}
-use Rattle.chart_bytes.specs.Classes.{same-barred, same-opened, same-classed}
 use Rattle.chart.specs.Check.{targetCheck, fieldsCheck, limitsCheck, recordCheck, orderCheck, numberCheck, numbersCheck, sameBar, sameBars, barCheck, barsCheck, classCheck, classesCheck, formCheck, chartCheck}
 
 or-true : (a b : Bool) → (a || b) ≡ true → (a ≡ true) ⊎ (b ≡ true)
@@ -158,18 +156,31 @@ sameBar-tells t u = go (ℕ-discrete t 255) (ℕ-discrete u 255)
         rw (ne-eqb t 255 p, eq-eqb u 255 q, sameBar) (λ e. let z : _≡_ {A = ℕ} 0 1 = cc in absurd (omega arith), λ h. absurd (p (h .1 q)))
     go (no p) (no q) = rw (ne-eqb t 255 p, ne-eqb u 255 q, sameBar) (λ e. (λ h. absurd (p h), λ h. absurd (q h)), λ h. refl)
 
+pub sameBars-tells : (c : List ℕ) (i j : ℕ)
+    → (sameBars c i j ≡ true) ↔ ((a : ℕ) → a < actionsOf c → (targetOf c i a ≡ 255) ↔ (targetOf c j a ≡ 255))
+unfolding sameBars
+sameBars-tells c i j = (
+  λ e a h.
+      sameBar-tells (targetOf c i a) (targetOf c j a) .0
+      (is-true (bars a) (all-true bars (actionsOf c) .0 (true-is (all bars (actionsOf c)) e) a h)),
+  λ f.
+      is-true (all bars (actionsOf c))
+      (all-true bars (actionsOf c) .1 (λ a h. true-is (bars a) (sameBar-tells (targetOf c i a) (targetOf c j a) .1 (f a h)))),
+)
+  where
+    bars : ℕ → Bool
+    bars a = sameBar (targetOf c i a) (targetOf c j a)
+
 abbrev pub BarsAlike : List ℕ → Type 0
 BarsAlike c = (i j a : ℕ) → i < j → j < blocksOf c → a < actionsOf c → labelOf c i ≡ labelOf c j → (targetOf c i a ≡ 255) ↔ (targetOf c j a ≡ 255)
 
 pub bars-right : (c : List ℕ) → (barsCheck c ≡ Fine) ↔ BarsAlike c
-unfolding barsCheck barCheck sameBars
+unfolding barsCheck barCheck
 bars-right c = (
   λ e i j a h hj ha l.
       ⊎-elim
       (λ q. let z = ap not (eq-eqb (labelOf c i) (labelOf c j) l) in let y : _≡_ {A = ℕ} 0 1 = cc in absurd (omega arith))
-      (λ q.
-      sameBar-tells (targetOf c i a) (targetOf c j a) .0
-      (is-true (sameBar (targetOf c i a) (targetOf c j a)) (all-true (bars i j) (actionsOf c) .0 (true-is (all (bars i j) (actionsOf c)) q) a ha)))
+      (λ q. sameBars-tells c i j .0 q a ha)
       (or-true (not (eqb (labelOf c i) (labelOf c j))) (sameBars c i j)
       (demand-fine (not (eqb (labelOf c i) (labelOf c j)) || sameBars c i j) 13 (recordAt c j)
       (each-fine (barCheck c j) j (each-fine (λ j. each (barCheck c j) j) (blocksOf c) e j hj) i h))),
@@ -178,107 +189,17 @@ bars-right c = (
       (λ j hj. each-all (barCheck c j) j (λ i h. demand-pass 13 (recordAt c j) (back r i j h hj (ℕ-discrete (labelOf c i) (labelOf c j))))),
 )
   where
-    bars : ℕ → ℕ → ℕ → Bool
-    bars i j a = sameBar (targetOf c i a) (targetOf c j a)
-
     back : BarsAlike c → (i j : ℕ) → i < j → j < blocksOf c → Dec (labelOf c i ≡ labelOf c j) → (not (eqb (labelOf c i) (labelOf c j)) || sameBars c i j) ≡ true
     back r i j h hj (yes l) =
-        or-second (not (eqb (labelOf c i) (labelOf c j)))
-        (is-true (all (bars i j) (actionsOf c))
-        (all-true (bars i j) (actionsOf c) .1
-        (λ a ha. true-is (bars i j a) (sameBar-tells (targetOf c i a) (targetOf c j a) .1 (r i j a h hj ha l)))))
+        or-second (not (eqb (labelOf c i) (labelOf c j))) (sameBars-tells c i j .1 (λ a ha. r i j a h hj ha l))
     back r i j h hj (no n) = or-first (sameBars c i j) (ap not (ne-eqb (labelOf c i) (labelOf c j) n))
 
--- what a table of classes knows of a target
-classOf : (ℕ → ℕ) → ℕ → Option ℕ
-classOf f t = elim (eqb t 255) [ true ↦ none | false ↦ some (f t) ]
-
-class-barred : (f : ℕ → ℕ) (t : ℕ) → t ≡ 255 → classOf f t ≡ none
-unfolding classOf
-class-barred f t e = rw (eq-eqb t 255 e, classOf)
-
-class-open : (f : ℕ → ℕ) (t : ℕ) → (t ≡ 255 → ⊥) → classOf f t ≡ some (f t)
-unfolding classOf
-class-open f t n = rw (ne-eqb t 255 n, classOf)
-
-target-classes : (f : ℕ → ℕ) (t u : ℕ) → T (sameTarget f t u) ↔ (classOf f t ≡ classOf f u)
-target-classes f t u = go (ℕ-discrete t 255) (ℕ-discrete u 255)
-  where
-    go : Dec (t ≡ 255) → Dec (u ≡ 255) → T (sameTarget f t u) ↔ (classOf f t ≡ classOf f u)
-    go (yes p) (yes q) =
-        rw (sym (same-barred f t u p) ∙ eq-eqb u 255 q, class-barred f t p, class-barred f u q) (λ e. refl, λ e. tt)
-    go (yes p) (no q) =
-        rw (sym (same-barred f t u p) ∙ ne-eqb u 255 q, class-barred f t p, class-open f u q)
-        (λ e. absurd e, λ e. let z : _≡_ {A = ℕ} 0 1 = cc in absurd (omega arith))
-    go (no p) (yes q) =
-        rw (sym (same-opened f t u p q), class-open f t p, class-barred f u q)
-        (λ e. absurd e, λ e. let z : _≡_ {A = ℕ} 0 1 = cc in absurd (omega arith))
-    go (no p) (no q) =
-        rw (sym (same-classed f t u p q), class-open f t p, class-open f u q)
-        (λ e. ap some (eqb-tells (f t) (f u) .0 e), λ e. eqb-tells (f t) (f u) .1 (cc))
-
--- two blocks agree in f and, action by action, in f of their targets
-record Agree (c : List ℕ) (f : ℕ → ℕ) (i j : ℕ) : Type 0 where
-  self : f i ≡ f j
-  targets : (a : ℕ) → a < actionsOf c → classOf f (targetOf c i a) ≡ classOf f (targetOf c j a)
-
-agree-equivalence : (c : List ℕ) (f : ℕ → ℕ) → Equivalence (Agree c f)
-agree-equivalence c f =
-    record {
-      refl = λ i. record { self = refl; targets = λ a h. refl };
-      symm = λ i j p. record { self = sym (p .self); targets = λ a h. sym (p .targets a h) };
-      trans = λ i j k p q. record { self = p .self ∙ q .self; targets = λ a h. p .targets a h ∙ q .targets a h };
-    }
-
-agree-tells : (c : List ℕ) (f : ℕ → ℕ) (i j : ℕ) → T (refines c f i j) ↔ Agree c f i j
-unfolding refines
-agree-tells c f i j = (
-  λ t.
-      let (p, q) = both (eqb (f j) (f i)) (all at (actionsOf c)) .0 t in
-      record {
-        self = sym (eqb-tells (f j) (f i) .0 p);
-        targets = λ a h. sym (target-classes f (targetOf c j a) (targetOf c i a) .0 (all-true at (actionsOf c) .0 q a h));
-      },
-  λ r.
-      both (eqb (f j) (f i)) (all at (actionsOf c)) .1 (
-        eqb-tells (f j) (f i) .1 (sym (r .self)),
-        all-true at (actionsOf c) .1 (λ a h. target-classes f (targetOf c j a) (targetOf c i a) .1 (sym (r .targets a h))),
-      ),
-)
-  where
-    at : ℕ → Bool
-    at a = sameTarget f (targetOf c j a) (targetOf c i a)
-
--- the least of a class is in it, and is its own least
-least-own : (q : ℕ → ℕ → Bool) (n : ℕ) (R : ℕ → ℕ → Type 0) → Equivalence R → ((i j : ℕ) → i < n → j < n → T (q i j) ↔ R i j)
-    → (j : ℕ) → j < n → (least (q j) n ≤ j) × (least (q (least (q j) n)) n ≡ least (q j) n)
-least-own q n R E t j h =
-    let r = t j j h h .1 (E .refl j) in
-    let l = least-least (q j) n in
-    let b = least-lt (q j) n j h r in
-    (le (decLe (least (q j) n) j) l r, sym (least-tells q n R E t j (least (q j) n) h b .1 (t j (least (q j) n) h b .0 (l .passes b))))
-  where
-    le : Dec (least (q j) n ≤ j) → Least (q j) n (least (q j) n) → T (q j j) → least (q j) n ≤ j
-    le (yes p) l r = p
-    le (no p) l r = absurd (l .first j (omega arith) r)
-
--- a block's class after k rounds is the number of a block in it, no later than the block
-pub class-own : (c : List ℕ) (k j : ℕ) → j < blocksOf c → (roundClass c k j ≤ j) × (roundClass c k (roundClass c k j) ≡ roundClass c k j)
-unfolding roundClass
-class-own c zero j h =
-    least-own (λ i j. eqb (labelOf c j) (labelOf c i)) (blocksOf c) (λ i j. labelOf c j ≡ labelOf c i)
-    (record { refl = λ x. refl; symm = λ x y p. sym p; trans = λ x y z p q. q ∙ p })
-    (λ i j hi hj. eqb-tells (labelOf c j) (labelOf c i)) j h
-class-own c (suc k) j h =
-    least-own (refines c (roundClass c k)) (blocksOf c) (Agree c (roundClass c k)) (agree-equivalence c (roundClass c k))
-    (λ i j hi hj. agree-tells c (roundClass c k) i j) j h
-
 -- each block is the least of its class exactly where no two are in one class
-pub own-apart : (c : List ℕ) (k n : ℕ) → n ≤ blocksOf c
+pub own-apart : (c : List ℕ) → blocksOf c ≤ 255 → TargetsRight c → (k n : ℕ) → n ≤ blocksOf c
     → ((j : ℕ) → j < n → roundClass c k j ≡ j) ↔ ((i j : ℕ) → i < j → j < n → roundClass c k i ≡ roundClass c k j → ⊥)
-own-apart c k n b = (
+own-apart c few right k n b = (
   λ f i j h l e. let p = f i (omega arith) in let q = f j l in omega arith,
-  λ f j l. let (p, q) = class-own c k j (omega arith) in ⊎-elim (λ e. e) (λ h. absurd (f (roundClass c k j) j h l q)) (eq-or-lt-of-le p),
+  λ f j l. let (p, q) = class-own c few right k j (omega arith) in ⊎-elim (λ e. e) (λ h. absurd (f (roundClass c k j) j h l q)) (eq-or-lt-of-le p),
 )
 
 -- 14
@@ -295,10 +216,10 @@ pub classes-right : (c : List ℕ) → blocksOf c ≤ 255 → TargetsRight c →
 unfolding classesCheck
 classes-right c few right = (
   λ e i j h l.
-      rounds-told c few right i j (omega arith) l .1 (own-apart c (blocksOf c) (blocksOf c) (omega arith) .0 (classes-own c (blocksOf c) .0 e) i j h l),
+      rounds-told c few right i j (omega arith) l .1 (own-apart c few right (blocksOf c) (blocksOf c) (omega arith) .0 (classes-own c (blocksOf c) .0 e) i j h l),
   λ f.
       classes-own c (blocksOf c) .1
-      (own-apart c (blocksOf c) (blocksOf c) (omega arith) .1 (λ i j h l. rounds-told c few right i j (omega arith) l .0 (f i j h l))),
+      (own-apart c few right (blocksOf c) (blocksOf c) (omega arith) .1 (λ i j h l. rounds-told c few right i j (omega arith) l .0 (f i j h l))),
 )
 
 -- what a chart that passes all before 14 obeys

@@ -3,6 +3,8 @@ pub mod Records
 pub mod Apart
 pub mod RunChart
 pub mod Accepted
+pub mod Bars
+pub mod Depth
 pub mod Walk
 pub mod Ran
 pub mod Unparted

@@ -14,11 +14,11 @@ use Rattle.answers.specs.declared.Checked.{Checked}
 use Rattle.answers.specs.declared.Checked.the-variants.{Fine, Refused}
 use Rattle.answers.specs.Stages.{andThen, demand, each, passed, each-first}
 use Rattle.model.specs.Chart.{actionsOf, blocksOf, recordAt, nextIn, nextUnnamed, chartSystem, roundClass}
-use Rattle.model.specs.Rounds.{rounds-alike}
+use Rattle.model.specs.Rounds.{class-own, rounds-alike}
 use Rattle.chart_bytes.specs.Header.{markCheck, countCheck, lengthCheck, headerCheck}
 use Rattle.chart.specs.Check.{targetCheck, fieldsCheck, limitsCheck, recordCheck, orderCheck, numberCheck, numbersCheck, barCheck, barsCheck, classCheck, classesCheck, formCheck, chartCheck}
 use Rattle.chart.specs.Apart.{class-shared}
-use Rattle.chart.specs.Accepted.{Formed, form-passed, class-own, own-apart, classes-own}
+use Rattle.chart.specs.Accepted.{Formed, form-passed, own-apart, classes-own}
 
 -- two blocks read alike for every sequence
 abbrev pub SameReadings : List ℕ → ℕ → ℕ → Type 0
@@ -105,9 +105,9 @@ module _ (c : List ℕ) where
   parted : Formed c → (n : ℕ) → n ≤ blocksOf c
       → ((j : ℕ) → j < n → roundClass c (blocksOf c) j ≡ j) ↔ ((i j : ℕ) → i < j → j < n → SameReadings c i j → ⊥)
   parted f n b = (
-    λ g i j h l r. own-apart c (blocksOf c) n b .0 g i j h l (rounds-alike c (f .shape .blocks-few) (f .targets) i j (omega arith) (omega arith) .1 r),
+    λ g i j h l r. own-apart c (f .shape .blocks-few) (f .targets) (blocksOf c) n b .0 g i j h l (rounds-alike c (f .shape .blocks-few) (f .targets) i j (omega arith) (omega arith) .1 r),
     λ g.
-        own-apart c (blocksOf c) n b .1
+        own-apart c (f .shape .blocks-few) (f .targets) (blocksOf c) n b .1
         (λ i j h l e. g i j h l (rounds-alike c (f .shape .blocks-few) (f .targets) i j (omega arith) (omega arith) .0 e)),
   )
 
@@ -128,7 +128,7 @@ module _ (c : List ℕ) where
               let f = form-passed c q in
               let j = r .at in
               let (s, d) = demand-where (eqb (roundClass c (blocksOf c) j) j) 14 (recordAt c j) (r .refuses) in
-              let (l, o) = class-own c (blocksOf c) j (r .within) in
+              let (l, o) = class-own c (f .shape .blocks-few) (f .targets) (blocksOf c) j (r .within) in
               let b : roundClass c (blocksOf c) j < j = ⊎-elim (λ e. absurd (eqb-false (roundClass c (blocksOf c) j) j s e)) (λ h. h) (eq-or-lt-of-le l) in
               record {
                 form = q;
@@ -148,7 +148,7 @@ module _ (c : List ℕ) where
           let j = u .later in
           let h : i < blocksOf c = omega (arith, u .order, u .there) in
           let e = rounds-alike c (f .shape .blocks-few) (f .targets) i j h (u .there) .1 (u .alike) in
-          let l = class-own c (blocksOf c) i h .0 in
+          let l = class-own c (f .shape .blocks-few) (f .targets) (blocksOf c) i h .0 in
           let n : roundClass c (blocksOf c) j ≡ j → ⊥ = λ d. let o = u .order in omega arith in
           let b = classes-own c j .1 (parted f j (omega (arith, u .there)) .1 (u .first)) in
           sym

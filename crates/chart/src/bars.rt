@@ -1,14 +1,15 @@
 // Refusal 13: blocks of one label that bar different actions.
 ghost use mathlib.Core.Path.{_≡_};
 ghost use Prim.Native.Nat.{_<_};
-ghost use Rattle.answers.specs.Stages.{each};
-ghost use Rattle.model.specs.Chart.{blocksOf};
+ghost use lib.ListN.{length};
+ghost use Rattle.model.specs.Chart.{blocksOf, roundClass};
 ghost use Rattle.chart_bytes.specs.Shape.{Shaped};
+ghost use Rattle.chart_bytes.specs.Classes.{Holds};
 ghost use Rattle.chart.specs.Check.{sameBar, sameBars, barCheck, barsCheck};
 use answers::Checked;
+use answers::demanded;
 use chart_bytes::fields::actions_of;
 use chart_bytes::fields::blocks_of;
-use chart_bytes::fields::label_of;
 use chart_bytes::fields::record_at;
 use chart_bytes::fields::target_of;
 
@@ -33,46 +34,28 @@ fn same_bars(c: &[u8], i: usize, j: usize) -> bool
     true
 }
 
-// Record j against an earlier record i.
-fn check_pair(c: &[u8], j: usize, i: usize) -> Checked
+// Record j against the first of its label.
+fn check_later(c: &[u8], f: &[u8], j: usize) -> Checked
     requires { ⌜ Shaped (now c) ⌝ }
-    requires { ⌜ (j < blocksOf (now c)) × (i < j) ⌝ }
-    ensures { λ r. ⌜ r ≡ barCheck (now (c .entry)) j i ⌝ }
-{
-    if label_of(c, i) != label_of(c, j) {
-        return Checked::Fine;
-    }
-    if same_bars(c, i, j) {
-        return Checked::Fine;
-    }
-    Checked::Refused {
-        number: 13,
-        returned: record_at(c, j),
-    }
-}
-
-// Record j against all earlier records.
-fn check_later(c: &[u8], j: usize) -> Checked
-    requires { ⌜ Shaped (now c) ⌝ }
+    requires { ⌜ length (now f) ≡ 255 ⌝ }
+    requires { ⌜ Holds (now c) 0 (now f) ⌝ }
     requires { ⌜ j < blocksOf (now c) ⌝ }
-    ensures { λ r. ⌜ r ≡ each (barCheck (now (c .entry)) j) j ⌝ }
+    ensures { λ r. ⌜ r ≡ barCheck (now (c .entry)) j (roundClass (now (c .entry)) 0 j) ⌝ }
 {
-    for i in 0..j {
-        let one = check_pair(c, j, i);
-        let Checked::Fine = one else {
-            return one;
-        };
-    }
-    Checked::Fine
+    let first = f[j] as usize;
+    demanded(same_bars(c, first, j), 13, record_at(c, j))
 }
 
-// All records, the earliest later one first.
-pub(crate) fn check_bars(c: &[u8]) -> Checked
+// All records, the earliest later one first. The table f has for each block the first of its label: two later ones that bar what it bars
+// agree with one another.
+pub(crate) fn check_bars(c: &[u8], f: &[u8]) -> Checked
     requires { ⌜ Shaped (now c) ⌝ }
+    requires { ⌜ length (now f) ≡ 255 ⌝ }
+    requires { ⌜ Holds (now c) 0 (now f) ⌝ }
     ensures { λ r. ⌜ r ≡ barsCheck (now (c .entry)) ⌝ }
 {
     for j in 0..blocks_of(c) {
-        let one = check_later(c, j);
+        let one = check_later(c, f, j);
         let Checked::Fine = one else {
             return one;
         };

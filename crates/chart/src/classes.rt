@@ -1,16 +1,18 @@
-// Refusal 14: blocks that no sequence tells apart, by the classes after all rounds of refinement.
+// The depth, and refusal 14: blocks that no sequence tells apart, by the classes after all rounds of refinement.
 ghost use mathlib.Core.Path.{_≡_};
 ghost use lib.ListN.{length};
 ghost use Rattle.answers.specs.Stages.{each};
 ghost use Rattle.model.specs.Chart.{blocksOf};
+ghost use Rattle.model.specs.ChartDepth.{depthOf};
 ghost use Rattle.model.specs.Rounds.{TargetsRight};
 ghost use Rattle.chart_bytes.specs.Shape.{Shaped};
-ghost use Rattle.chart_bytes.specs.Classes.{entry};
+ghost use Rattle.chart_bytes.specs.Classes.{entry, Holds};
 ghost use Rattle.chart.specs.Check.{classCheck, classesCheck};
+ghost use Rattle.chart.specs.Depth.{depthBy};
+use crate::Settled;
 use answers::Checked;
 use chart_bytes::fields::blocks_of;
 use chart_bytes::fields::record_at;
-use chart_bytes::rounds::by_labels;
 use chart_bytes::rounds::refine_all;
 
 // The first block whose class has an earlier block.
@@ -31,15 +33,20 @@ fn check_table(c: &[u8], f: &[u8]) -> Checked
     Checked::Fine
 }
 
-// Two blocks not told apart, the earliest later one first.
-pub(crate) fn check_classes(c: &[u8]) -> Checked
+// The depth, unless two blocks are not told apart; the earliest later one first. The table f begins with the classes by labels.
+pub(crate) fn settle(c: &[u8], f: &mut [u8]) -> Settled
     requires { ⌜ Shaped (now c) ⌝ }
     requires { ⌜ TargetsRight (now c) ⌝ }
-    ensures { λ r. ⌜ r ≡ classesCheck (now (c .entry)) ⌝ }
+    requires { ⌜ length (now f) ≡ 255 ⌝ }
+    requires { ⌜ Holds (now c) 0 (now f) ⌝ }
+    ensures { λ r. ⌜ r ≡ depthBy (classesCheck (now (c .entry))) (depthOf (now (c .entry))) ⌝ }
+    ensures { λ r. ⌜ length (now (f .exit)) ≡ 255 ⌝ }
 {
-    let mut f = [0u8; 255];
     let mut g = [0u8; 255];
-    by_labels(c, &mut f);
-    refine_all(c, &mut f, &mut g);
-    check_table(c, &f)
+    let depth = refine_all(c, f, &mut g);
+    let apart = check_table(c, f);
+    let Checked::Refused { number, returned } = apart else {
+        return Settled::Done { depth };
+    };
+    Settled::Refused { number, returned }
 }

@@ -12,10 +12,12 @@ use lib.ListN.{length, getD, set}
 use lib.Seq.{getD-set-same, getD-set-other}
 use borrow.Author.Tests.{eq-eqb, ne-eqb}
 use Rattle.systems.specs.Search.{run, all, least}
-use Rattle.systems.specs.Laws.{true-is, not-true, least-is, least-ext, run-ext, below-suc}
+use Rattle.systems.specs.Laws.{true-is, not-true, least-is, least-le, least-ext, run-ext, below-suc}
 use Rattle.answers.specs.Loops.{and-both, and-first, and-second, all-stop, all-ended}
 use Rattle.model.specs.Chart.{actionsOf, blocksOf, labelOf, targetOf, sameTarget, refines, roundClass}
-use Rattle.model.specs.Rounds.{TargetsRight}
+use Rattle.model.specs.ChartDepth.{depthOf}
+use Rattle.model.specs.Rounds.{TargetsRight, Quiet, Parted, changed-parted, quiet-from}
+use Rattle.model.specs.ChartDepthLaws.{depth-is}
 
 -- what a table holds for a block
 abbrev pub entry : List ℕ → ℕ → ℕ
@@ -24,6 +26,16 @@ entry f x = getD f x 0
 -- the table f holds the classes after k rounds
 pub record Holds (c : List ℕ) (k : ℕ) (f : List ℕ) : Type 0 where
   pub at : (i : ℕ) → i < blocksOf c → getD f i 0 ≡ roundClass c k i
+
+-- no block's class in the table f has a later number than the block
+abbrev pub Ordered : List ℕ → List ℕ → Type 0
+Ordered c f = (i : ℕ) → i < blocksOf c → getD f i 0 ≤ i
+
+-- two tables differ in one of the first n entries
+pub record Differ (n : ℕ) (f g : List ℕ) : Type 0 where
+  pub at : ℕ
+  pub within : at < n
+  pub differs : getD f at 0 ≡ getD g at 0 → ⊥
 
 -- the table g is one round past the table f
 pub record Refined (c f g : List ℕ) : Type 0 where
@@ -100,6 +112,15 @@ class-ext c f g few right e i hi =
     least-ext (refines c f i) (refines c g i) (blocksOf c)
     (λ j hj. let q = refines-ext c f g few right e i j hi hj in (λ t. subst T q t, λ t. subst T (sym q) t))
 
+-- the classes after k rounds have numbers of blocks that come no later
+pub holds-ordered : (c f : List ℕ) (k : ℕ) → Holds c k f → Ordered c f
+unfolding roundClass
+holds-ordered c f zero h i l =
+    subst (λ (r : ℕ). r ≤ i) (sym (h .at i l)) (least-le (λ j. eqb (labelOf c j) (labelOf c i)) (blocksOf c) i (true-is (eqb (labelOf c i) (labelOf c i)) (eq-eqb (labelOf c i) (labelOf c i) refl)))
+holds-ordered c f (suc k) h i l =
+    subst (λ (r : ℕ). r ≤ i) (sym (h .at i l))
+    (least-le (refines c (roundClass c k) i) (blocksOf c) i (true-is (refines c (roundClass c k) i i) (refines-refl c (roundClass c k) i)))
+
 -- a round past the classes after k rounds gives those after k + 1
 pub holds-next : (c : List ℕ) → blocksOf c ≤ 255 → TargetsRight c → {k : ℕ} {f g : List ℕ} → Holds c k f → Refined c f g → Holds c (suc k) g
 unfolding roundClass
@@ -134,6 +155,12 @@ pub agree-first : (c f : List ℕ) (i j : ℕ) → (entry f j ≡ entry f i → 
 unfolding refines
 agree-first c f i j n = sym (and-first (all (sameAt c f i j) (actionsOf c)) (ne-eqb (entry f j) (entry f i) n))
 
+-- no block below a block's class has that class
+pub class-below : (c f : List ℕ) (i : ℕ) → Ordered c f → i < blocksOf c → (k : ℕ) → k < entry f i → refines c (entry f) i k ≡ false
+class-below c f i o h k l =
+    let b = o i h in
+    sym (agree-first c f i k (λ e. let p = o k (omega arith) in omega arith))
+
 pub agree-stop : (c f : List ℕ) (i j a : ℕ) → a < actionsOf c → sameAt c f i j a ≡ false → false ≡ refines c (entry f) i j
 unfolding refines
 agree-stop c f i j a h e = sym (and-second (eqb (entry f j) (entry f i)) (all-stop (sameAt c f i j) a (actionsOf c) e h))
@@ -153,6 +180,12 @@ settled-same c f g n e r h = record { at = λ i l. h i (omega arith) ∙ r .at i
 pub settled-moved : (c f g h : List ℕ) (n : ℕ) → n ≡ blocksOf c → Refined c f g → ((i : ℕ) → i < n → getD h i 0 ≡ getD g i 0) → Refined c f h
 settled-moved c f g h n e r k = record { at = λ i l. k i (omega arith) ∙ r .at i l }
 
+-- where they differ from those before
+pub differ-moved : (f g h : List ℕ) {m n : ℕ} → n ≡ m → Differ n f g → ((i : ℕ) → i < n → getD h i 0 ≡ getD g i 0) → Differ m f h
+differ-moved f g h e d k =
+    let b = d .within in
+    record { at = d .at; within = omega arith; differs = λ q. d .differs (q ∙ k (d .at) b) }
+
 -- one more round
 pub holds-more : (c : List ℕ) → blocksOf c ≤ 255 → TargetsRight c → {k : ℕ} {f g : List ℕ} → Holds c k f → Refined c f g → Holds c (k + 1) g
 holds-more c few right h r = rw add-one (holds-next c few right h r)
@@ -165,3 +198,25 @@ holds-all c {k} {f} h l p = let z : k ≡ blocksOf c = omega arith in subst (λ 
 pub holds-stopped : (c : List ℕ) → blocksOf c ≤ 255 → TargetsRight c → {k : ℕ} {f g : List ℕ} → k ≤ blocksOf c → Holds c k f → Refined c f g → g ≡ f → Holds c (blocksOf c) g
 holds-stopped c few right {k} {f} {g} l h r e =
     subst (Holds c (blocksOf c)) (sym e) (holds-still c few right (blocksOf c) l h (subst (Refined c f) e r))
+
+-- a round that changes an entry parts two blocks
+pub differ-parted : (c : List ℕ) → blocksOf c ≤ 255 → TargetsRight c → {k : ℕ} {f g : List ℕ} → Holds c k f → Refined c f g → Differ (blocksOf c) f g → Parted c k
+differ-parted c few right {k} h r d =
+    changed-parted c few right k (d .at) (d .within)
+    (λ e. d .differs (h .at (d .at) (d .within) ∙ sym e ∙ sym (holds-next c few right h r .at (d .at) (d .within))))
+
+-- one that changes nothing is quiet
+same-quiet : (c : List ℕ) → blocksOf c ≤ 255 → TargetsRight c → {k : ℕ} {f : List ℕ} → Holds c k f → Refined c f f → Quiet c k
+same-quiet c few right h r i j hi hj e =
+    let n = holds-next c few right h r in
+    sym (n .at i hi) ∙ h .at i hi ∙ e ∙ sym (h .at j hj) ∙ n .at j hj
+
+-- the depth, where k rounds part blocks and the next changes nothing
+pub depth-stopped : (c : List ℕ) → blocksOf c ≤ 255 → TargetsRight c → {k : ℕ} {f g : List ℕ} → ((m : ℕ) → m < k → Parted c m) → Holds c k f → Refined c f g → g ≡ f
+    → k ≡ depthOf c
+depth-stopped c few right {k} {f} p h r e = sym (depth-is c few right k p (same-quiet c few right h (subst (Refined c f) e r)))
+
+-- or where all rounds part some
+pub depth-all : (c : List ℕ) → blocksOf c ≤ 255 → TargetsRight c → {k n : ℕ} → n ≡ blocksOf c → k ≤ n → n ≤ k → ((m : ℕ) → m < k → Parted c m) → n ≡ depthOf c
+depth-all c few right e l m p =
+    e ∙ sym (depth-is c few right (blocksOf c) (λ i h. p i (omega arith)) (quiet-from c few right (blocksOf c) (omega arith)))

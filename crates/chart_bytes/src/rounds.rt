@@ -1,13 +1,14 @@
 // Rounds of refinement on block numbers. A table of 255 bytes holds for each block the least block of its class.
 ghost use mathlib.Core.Path.{_≡_};
-ghost use mathlib.Core.Bool.{true};
+ghost use mathlib.Core.Bool.{true, false};
 ghost use Prim.Native.Nat.{ℕ, _≤_, _<_};
 ghost use lib.ListN.{length, getD};
 ghost use Rattle.systems.specs.Search.{least};
 ghost use Rattle.model.specs.Chart.{blocksOf, sameTarget, refines, roundClass};
+ghost use Rattle.model.specs.ChartDepth.{depthOf};
 ghost use Rattle.model.specs.Rounds.{TargetsRight};
 ghost use Rattle.chart_bytes.specs.Shape.{Shaped};
-ghost use Rattle.chart_bytes.specs.Classes.{entry, Holds, Refined};
+ghost use Rattle.chart_bytes.specs.Classes.{entry, Holds, Refined, Ordered, Differ};
 use crate::fields::actions_of;
 use crate::fields::blocks_of;
 use crate::fields::label_of;
@@ -73,14 +74,15 @@ fn agrees(c: &[u8], f: &[u8], i: usize, j: usize) -> bool
     true
 }
 
-// The least block that agrees with block i.
+// The least block that agrees with block i. It has the class of i, so that none below the least of that class does.
 fn refined_class(c: &[u8], f: &[u8], i: usize) -> usize
     requires { ⌜ Shaped (now c) ⌝ }
     requires { ⌜ length (now f) ≡ 255 ⌝ }
+    requires { ⌜ Ordered (now c) (now f) ⌝ }
     requires { ⌜ i < blocksOf (now c) ⌝ }
     ensures { λ r. ⌜ (r ≡ least (refines (now (c .entry)) (entry (now (f .entry))) i) (blocksOf (now (c .entry)))) × (r ≤ i) ⌝ }
 {
-    for j in 0..i {
+    for j in f[i] as usize..i {
         if agrees(c, f, i, j) {
             return j;
         }
@@ -93,6 +95,7 @@ fn refine(c: &[u8], f: &[u8], g: &mut [u8])
     requires { ⌜ Shaped (now c) ⌝ }
     requires { ⌜ length (now f) ≡ 255 ⌝ }
     requires { ⌜ length (now g) ≡ 255 ⌝ }
+    requires { ⌜ Ordered (now c) (now f) ⌝ }
     ensures { λ r. ⌜ Refined (now (c .entry)) (now (f .entry)) (now (g .exit)) ⌝ }
     ensures { λ r. ⌜ length (now (g .exit)) ≡ 255 ⌝ }
 {
@@ -105,6 +108,7 @@ fn refine(c: &[u8], f: &[u8], g: &mut [u8])
 fn same_classes(f: &[u8], g: &[u8], n: usize) -> bool
     requires { ⌜ (n ≤ length (now f)) × (n ≤ length (now g)) ⌝ }
     ensures { λ r. ⌜ (r ≡ true → (i : ℕ) → i < n → getD (now (f .entry)) i 0 ≡ getD (now (g .entry)) i 0) ⌝ }
+    ensures { λ r. ⌜ (r ≡ false → Differ n (now (f .entry)) (now (g .entry))) ⌝ }
 {
     for i in 0..n {
         if f[i] != g[i] {
@@ -130,8 +134,10 @@ pub fn settled(c: &[u8], f: &mut [u8], g: &mut [u8]) -> bool
     requires { ⌜ Shaped (now c) ⌝ }
     requires { ⌜ length (now f) ≡ 255 ⌝ }
     requires { ⌜ length (now g) ≡ 255 ⌝ }
+    requires { ⌜ Ordered (now c) (now f) ⌝ }
     ensures { λ r. ⌜ Refined (now (c .entry)) (now (f .entry)) (now (f .exit)) ⌝ }
     ensures { λ r. ⌜ (r ≡ true → now (f .exit) ≡ now (f .entry)) ⌝ }
+    ensures { λ r. ⌜ (r ≡ false → Differ (blocksOf (now (c .entry))) (now (f .entry)) (now (f .exit))) ⌝ }
     ensures { λ r. ⌜ (length (now (f .exit)) ≡ 255) × (length (now (g .exit)) ≡ 255) ⌝ }
 {
     refine(c, f, g);
@@ -143,18 +149,21 @@ pub fn settled(c: &[u8], f: &mut [u8], g: &mut [u8]) -> bool
     false
 }
 
-// Rounds of refinement, to the first that parts nothing, and no more than there are blocks.
-pub fn refine_all(c: &[u8], f: &mut [u8], g: &mut [u8])
+// Rounds of refinement, to the first that parts nothing, and no more than there are blocks: how many part some blocks.
+pub fn refine_all(c: &[u8], f: &mut [u8], g: &mut [u8]) -> usize
     requires { ⌜ Shaped (now c) ⌝ }
     requires { ⌜ TargetsRight (now c) ⌝ }
     requires { ⌜ Holds (now c) 0 (now f) ⌝ }
     requires { ⌜ (length (now f) ≡ 255) × (length (now g) ≡ 255) ⌝ }
+    ensures { λ r. ⌜ r ≡ depthOf (now (c .entry)) ⌝ }
     ensures { λ r. ⌜ Holds (now (c .entry)) (blocksOf (now (c .entry))) (now (f .exit)) ⌝ }
     ensures { λ r. ⌜ length (now (f .exit)) ≡ 255 ⌝ }
 {
-    for k in 0..blocks_of(c) {
+    let n = blocks_of(c);
+    for k in 0..n {
         if settled(c, f, g) {
-            return;
+            return k;
         }
     }
+    n
 }

@@ -1,8 +1,11 @@
-// Checks charts at their extremes: each refusal at its first and last possible place, 1 and 255 blocks, the most rounds. Its output is
-// stored.
+// Checks charts at their extremes: each refusal at its first and last possible place, 1 and 255 blocks, the most rounds; and depths at theirs.
+// Its output is stored.
 ghost use Prim.Native.Nat.{_≤_};
+use chart::Settled;
 use text::put;
 use text::put_checked;
+use text::put_number;
+use text::put_refusal;
 
 // The check of the first bytes of c.
 fn show(name: &[u8], c: &[u8], len: usize) {
@@ -10,6 +13,22 @@ fn show(name: &[u8], c: &[u8], len: usize) {
     put(b": ");
     if len <= c.len() {
         put_checked(chart::check(&c[0..len]));
+    }
+}
+
+// The depth of the chart in the first bytes of c.
+fn show_depth(name: &[u8], c: &[u8], len: usize) {
+    put(b"depth, ");
+    put(name);
+    put(b": ");
+    if len <= c.len() {
+        match chart::depth(&c[0..len]) {
+            Settled::Done { depth } => {
+                put_number(depth as u64);
+                put(b"\n");
+            }
+            Settled::Refused { number, returned } => put_refusal(number, returned),
+        }
     }
 }
 
@@ -187,6 +206,35 @@ fn show_alike(c: &mut [u8; 2600]) {
     show(b"one byte short", c, 2556);
 }
 
+// Depths: none to tell apart, labels that tell all, chains, where each round parts one block, and charts that are refused.
+fn show_depths(c: &mut [u8; 2600]) {
+    chain(c, false, 1);
+    show_depth(b"1 block", c, 10);
+    chain(c, false, 2);
+    show_depth(b"2 labels", c, 13);
+    chain(c, false, 3);
+    show_depth(b"chain of 3", c, 16);
+    label(c, false, 1, 30);
+    show_depth(b"3 labels", c, 16);
+    show_depth(b"one byte short", c, 15);
+    chain(c, false, 255);
+    show_depth(b"chain of 255, 1 action", c, 772);
+    chain(c, true, 255);
+    show_depth(b"chain of 255, 8 actions", c, 2557);
+}
+
+// A block of its own label in the middle of a chain, and a chart that refusal 14 ends after all rounds.
+fn show_halves(c: &mut [u8; 2600]) {
+    chain(c, true, 255);
+    label(c, true, 127, 30);
+    show_depth(b"chain of 255, parted in the middle", c, 2557);
+    chain(c, true, 255);
+    target(c, true, 252, 1, 254);
+    target(c, true, 253, 0, 255);
+    label(c, true, 253, 20);
+    show_depth(b"block 254 like 253", c, 2557);
+}
+
 fn main() {
     let mut c = [0u8; 2600];
     show_header(&mut c);
@@ -198,4 +246,6 @@ fn main() {
     show_single(&mut c);
     show_last(&mut c);
     show_alike(&mut c);
+    show_depths(&mut c);
+    show_halves(&mut c);
 }

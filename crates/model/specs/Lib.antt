@@ -9,7 +9,9 @@ pub mod ClassTheorem
 pub mod BoxList
 pub mod ChartBytes
 pub mod Labels
+pub mod ChartDepth
 pub mod Rounds
+pub mod ChartDepthLaws
 pub mod ChartRules
 pub mod ChartEquality
 pub mod Composition

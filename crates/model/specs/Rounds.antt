@@ -1,7 +1,7 @@
 -- Rounds of refinement on a chart: what they tell after each round, when they settle, and sequences that tell blocks apart.
 use mathlib.Core.Path.{_≡_, refl, sym, subst, _∙_}
 use mathlib.Core.Logic.{_↔_, _⊎_, inl, inr, ⊎-elim}
-use mathlib.Core.Bool.{Bool, false}
+use mathlib.Core.Bool.{Bool, false, not, _&&_}
 use mathlib.Core.List.{List, [], _∷_}
 use mathlib.Core.Option.{Option, some, none}
 use Prim.Native.Nat.{ℕ, zero, suc, _+_, _≤_, _<_}
@@ -10,14 +10,14 @@ use native.Mathlib.Decide.{decLt, le-ind, ℕ-discrete}
 use native.Mathlib.Omega.{arith}
 use borrow.Author.Tests.{lt-ltb, le-ltb, eq-eqb, ne-eqb}
 use lib.Dec.{T, eqb}
-use lib.ListN.{length}
-use Rattle.systems.specs.Search.{all}
-use Rattle.systems.specs.System.{reading, Alike, Below, below-nil, below-cons}
-use Rattle.systems.specs.Laws.{both, all-true, below-suc, least-tells, eqb-tells}
+use Rattle.systems.specs.Search.{any, all, count}
+use Rattle.systems.specs.System.{Alike, below-nil, below-cons}
+use Rattle.systems.specs.Laws.{not-tells, both, any-true, all-true, same-test, below-suc, count-ext, least-tells, least-own, eqb-tells}
 use Rattle.systems.specs.Alike.{reading-parts, barred-differs, open-next, Both, both-barred, both-open, AlikeTo, alike-to-zero, alike-to-suc, alike-to-le, alike-depths, alike-to-equivalence}
 use Rattle.systems.specs.Counting.{numbers, numbers-length, numbers-mem, Finer, classes, classes-finer}
 use Rattle.systems.specs.Moore.{Chain, changes, changed, changed-differs, changes-le, settled-from, Tested, depths-chain, alike-length}
 use Rattle.model.specs.Chart.{actionsOf, blocksOf, labelOf, targetOf, blockNamed, chartStep, chartSystem, ToldApart, sameTarget, refines, roundClass}
+use Rattle.model.specs.ChartDepth.{sameRound, parts, labelCount, ApartIn}
 
 -- each target is a block's number or 255
 abbrev pub TargetsRight : List ℕ → Type 0
@@ -80,10 +80,6 @@ target-tells f n R few e t u (inr h) (inr g) =
 abbrev pub Tells : List ℕ → ℕ → (ℕ → ℕ) → Type 0
 Tells c k f = (i j : ℕ) → i < blocksOf c → j < blocksOf c → (f i ≡ f j) ↔ AlikeTo k (chartSystem c) (chartSystem c) i j
 
--- two blocks are in one class after k rounds
-abbrev pub sameRound : List ℕ → ℕ → ℕ → ℕ → Bool
-sameRound c k i j = eqb (roundClass c k i) (roundClass c k j)
-
 -- round k + 1 parts nothing that the rounds before it left together
 abbrev pub Quiet : List ℕ → ℕ → Type 0
 Quiet c k = (i j : ℕ) → i < blocksOf c → j < blocksOf c → roundClass c k i ≡ roundClass c k j → roundClass c (suc k) i ≡ roundClass c (suc k) j
@@ -97,20 +93,47 @@ pub record Parted (c : List ℕ) (k : ℕ) : Type 0 where
   pub together : roundClass c k one ≡ roundClass c k other
   pub apart : roundClass c (suc k) one ≡ roundClass c (suc k) other → ⊥
 
--- how many different labels the chart has
-unfoldable pub labelCount : List ℕ → ℕ
-labelCount c = classes (λ i j. eqb (labelOf c i) (labelOf c j)) (numbers (blocksOf c))
+-- the test for it
+pub parts-tells : (c : List ℕ) (k : ℕ) → T (parts c k) ↔ Parted c k
+unfolding parts
+parts-tells c k = (to, from)
+  where
+    row : ℕ → ℕ → Bool
+    row i j = sameRound c k i j && not (sameRound c (suc k) i j)
 
--- how many of the first m rounds part something
-unfoldable pub partingRounds : List ℕ → ℕ → ℕ
-partingRounds c m = changes (numbers (blocksOf c)) (sameRound c) m
+    to : T (any (λ i. any (row i) (blocksOf c)) (blocksOf c)) → Parted c k
+    to t =
+        let (i, hi, u) = any-true (λ i. any (row i) (blocksOf c)) (blocksOf c) .0 t in
+        let (j, hj, v) = any-true (row i) (blocksOf c) .0 u in
+        let (p, q) = both (sameRound c k i j) (not (sameRound c (suc k) i j)) .0 v in
+        record {
+          one = i;
+          other = j;
+          one-block = hi;
+          other-block = hj;
+          together = eqb-tells (roundClass c k i) (roundClass c k j) .0 p;
+          apart = λ e. not-tells (sameRound c (suc k) i j) .0 q (eqb-tells (roundClass c (suc k) i) (roundClass c (suc k) j) .1 e);
+        }
 
--- a sequence of at most k of the chart's actions that reads differently from two blocks
-pub record ApartIn (c : List ℕ) (k i j : ℕ) : Type 0 where
-  pub sequence : List ℕ
-  pub of-actions : Below (actionsOf c) sequence
-  pub short : length sequence ≤ k
-  pub differs : reading (chartSystem c) sequence i ≡ reading (chartSystem c) sequence j → ⊥
+    from : Parted c k → T (any (λ i. any (row i) (blocksOf c)) (blocksOf c))
+    from p =
+        any-true (λ i. any (row i) (blocksOf c)) (blocksOf c) .1 (
+          p .one,
+          p .one-block,
+          any-true (row (p .one)) (blocksOf c) .1 (
+            p .other,
+            p .other-block,
+            both (sameRound c k (p .one) (p .other)) (not (sameRound c (suc k) (p .one) (p .other))) .1 (
+              eqb-tells (roundClass c k (p .one)) (roundClass c k (p .other)) .1 (p .together),
+              not-tells (sameRound c (suc k) (p .one) (p .other)) .1
+                  (λ t. p .apart (eqb-tells (roundClass c (suc k) (p .one)) (roundClass c (suc k) (p .other)) .0 t)),
+            ),
+          ),
+        )
+
+-- a round that parts two blocks is not quiet
+pub parted-loud : (c : List ℕ) (k : ℕ) → Parted c k → Quiet c k → ⊥
+parted-loud c k p q = p .apart (q (p .one) (p .other) (p .one-block) (p .other-block) (p .together))
 
 -- each number below n has one property, or something else holds
 each-or : (P : ℕ → Type 0) (Q : Type 0) (n : ℕ) → ((a : ℕ) → a < n → P a ⊎ Q) → ((a : ℕ) → a < n → P a) ⊎ Q
@@ -172,18 +195,61 @@ module _ (c : List ℕ) (few : blocksOf c ≤ 255) (right : TargetsRight c) wher
                 (λ a h. steps-tell k f t j i a hj hi h .1 (alike-to-suc (chartSystem c) (chartSystem c) k j i .0 r .1 a)),
           )
 
+  -- labels tell as much as no action does
+  labels-tell : (i j : ℕ) → i < blocksOf c → j < blocksOf c → T (eqb (labelOf c j) (labelOf c i)) ↔ AlikeTo zero (chartSystem c) (chartSystem c) i j
+  unfolding chartSystem
+  labels-tell i j hi hj = (
+    λ p. alike-to-zero (chartSystem c) (chartSystem c) i j .1 (sym (eqb-tells (labelOf c j) (labelOf c i) .0 p)),
+    λ r. eqb-tells (labelOf c j) (labelOf c i) .1 (sym (alike-to-zero (chartSystem c) (chartSystem c) i j .0 r)),
+  )
+
   -- After k rounds two blocks are in one class exactly where no sequence of at most k actions tells them apart.
   pub round-tells : (k : ℕ) → Tells c k (roundClass c k)
-  unfolding roundClass chartSystem
+  unfolding roundClass
   round-tells zero =
       least-tells (λ i j. eqb (labelOf c j) (labelOf c i)) (blocksOf c) (AlikeTo zero (chartSystem c) (chartSystem c)) (alike-to-equivalence zero (chartSystem c))
-      (λ i j hi hj. (
-        λ p. alike-to-zero (chartSystem c) (chartSystem c) i j .1 (sym (eqb-tells (labelOf c j) (labelOf c i) .0 p)),
-        λ r. eqb-tells (labelOf c j) (labelOf c i) .1 (sym (alike-to-zero (chartSystem c) (chartSystem c) i j .0 r)),
-      ))
+      labels-tell
   round-tells (suc k) =
       least-tells (refines c (roundClass c k)) (blocksOf c) (AlikeTo (suc k) (chartSystem c) (chartSystem c)) (alike-to-equivalence (suc k) (chartSystem c))
       (refines-tells k (roundClass c k) (round-tells k))
+
+  -- a block's class after k rounds is the number of a block in it, no later than the block
+  pub class-own : (k j : ℕ) → j < blocksOf c → (roundClass c k j ≤ j) × (roundClass c k (roundClass c k j) ≡ roundClass c k j)
+  unfolding roundClass
+  class-own zero =
+      least-own (λ i j. eqb (labelOf c j) (labelOf c i)) (blocksOf c) (AlikeTo zero (chartSystem c) (chartSystem c)) (alike-to-equivalence zero (chartSystem c))
+      labels-tell
+  class-own (suc k) =
+      least-own (refines c (roundClass c k)) (blocksOf c) (AlikeTo (suc k) (chartSystem c) (chartSystem c)) (alike-to-equivalence (suc k) (chartSystem c))
+      (refines-tells k (roundClass c k) (round-tells k))
+
+  -- what one more round leaves together was together
+  round-finer : (k i j : ℕ) → i < blocksOf c → j < blocksOf c → roundClass c (suc k) i ≡ roundClass c (suc k) j → roundClass c k i ≡ roundClass c k j
+  round-finer k i j hi hj e =
+      round-tells k i j hi hj .1 (alike-to-le (chartSystem c) (chartSystem c) i j (omega arith) (round-tells (suc k) i j hi hj .0 e))
+
+  -- the least of a class stays the least of its class
+  least-stays : (k m : ℕ) → m < blocksOf c → roundClass c k m ≡ m → roundClass c (suc k) m ≡ m
+  least-stays k m h e =
+      let (l, o) = class-own (suc k) m h in
+      let b : roundClass c (suc k) m < blocksOf c = omega arith in
+      let f = round-finer k (roundClass c (suc k) m) m b h o in
+      let g = class-own k (roundClass c (suc k) m) b .0 in
+      omega arith
+
+  -- a round that changes a block's class parts the block from the one whose number the class had
+  pub changed-parted : (k i : ℕ) → i < blocksOf c → (roundClass c (suc k) i ≡ roundClass c k i → ⊥) → Parted c k
+  changed-parted k i h n =
+      let (l, o) = class-own k i h in
+      let b : roundClass c k i < blocksOf c = omega arith in
+      record {
+        one = i;
+        other = roundClass c k i;
+        one-block = h;
+        other-block = b;
+        together = sym o;
+        apart = λ e. n (e ∙ least-stays k (roundClass c k i) b o);
+      }
 
   -- a step from a block leads to a block
   pub chart-closed : (a i j : ℕ) → i < blocksOf c → chartStep c a i ≡ some j → j < blocksOf c
@@ -264,11 +330,15 @@ module _ (c : List ℕ) (few : blocksOf c ≤ 255) (right : TargetsRight c) wher
       (λ i j m n t. eqb-tells (labelOf c i) (labelOf c j) .1 (alike-to-zero (chartSystem c) (chartSystem c) i j .0 (rounds-tested .tells 0 i j m n .0 t)))
 
   -- The rounds that part something are at most as many as there are more blocks than different labels.
-  pub parting-few : (m : ℕ) → labelCount c + partingRounds c m ≤ blocksOf c
-  unfolding partingRounds
+  pub parting-few : (m : ℕ) → labelCount c + count (parts c) m ≤ blocksOf c
+  unfolding changes
   parting-few m =
+      let e = count-ext (parts c) (changed (numbers (blocksOf c)) (sameRound c)) m (λ k h. same-test (parts c k) (changed (numbers (blocksOf c)) (sameRound c) k) (both-ways k)) in
       let h = changes-le (numbers (blocksOf c)) (sameRound c) rounds-chain m in
       omega (arith, label-classes, numbers-length (blocksOf c))
+    where
+      both-ways : (k : ℕ) → T (parts c k) ↔ T (changed (numbers (blocksOf c)) (sameRound c) k)
+      both-ways k = (λ t. counted-parts k .1 (parts-tells c k .0 t), λ t. parts-tells c k .1 (counted-parts k .0 t))
 
   -- From that number on every round is quiet.
   pub quiet-from : (k : ℕ) → blocksOf c ≤ labelCount c + k → Quiet c k

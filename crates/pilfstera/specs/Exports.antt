@@ -5,6 +5,7 @@ use Rattle.answers.specs.declared.Checked.the-variants.{Fine, Refused}
 use Rattle.answers.specs.declared.FirstBarred.{FirstBarred}
 use Rattle.answers.specs.declared.FirstBarred.the-variants.{Nothing, At}
 use Rattle.answers.specs.declared.Ran.{Ran}
+use Rattle.chart.specs.declared.Settled.{Settled}
 use Rattle.charting.specs.declared.Made.{Made}
 
 -- a check: 0 and 0 where it passed
@@ -34,6 +35,15 @@ barredIndex (At k) actions = k
 unfoldable pub runBarred : Ran → ℕ → ℕ → ℕ
 runBarred (Ran.Done n b) actions old = barredIndex b actions
 runBarred (Ran.Refused n p) actions old = old
+
+-- the settling depth of a chart: 0 and the depth where it was accepted
+unfoldable pub depthNumber : Settled → ℕ
+depthNumber (Settled.Done d) = 0
+depthNumber (Settled.Refused n p) = n
+
+unfoldable pub depthReturned : Settled → ℕ
+depthReturned (Settled.Done d) = d
+depthReturned (Settled.Refused n p) = p
 
 -- making a chart: 0 and the number of blocks where it was done
 unfoldable pub makeNumber : Made → ℕ

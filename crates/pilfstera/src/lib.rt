@@ -9,12 +9,14 @@ ghost use Rattle.sheet_bytes.specs.Decode.{decode};
 ghost use Rattle.sheet.specs.Check.{sheetCheck};
 ghost use Rattle.sheet.specs.RunSheet.{sheetRan, sheetLeft};
 ghost use Rattle.chart.specs.Check.{chartCheck};
+ghost use Rattle.chart.specs.Depth.{chartDepth};
 ghost use Rattle.chart.specs.RunChart.{chartRan, chartLeft};
 ghost use Rattle.charting.specs.Making.{makeChecks, madeBy, writtenBy};
-ghost use Rattle.pilfstera.specs.Exports.{checkNumber, checkReturned, runNumber, runReturned, runBarred, makeNumber, makeReturned, barredIndex};
+ghost use Rattle.pilfstera.specs.Exports.{checkNumber, checkReturned, runNumber, runReturned, runBarred, depthNumber, depthReturned, makeNumber, makeReturned, barredIndex};
 use answers::Checked;
 use answers::FirstBarred;
 use answers::Ran;
+use chart::Settled;
 use charting::Made;
 
 // Stores what a check returns, and gives its number.
@@ -63,6 +65,26 @@ fn told_run(ran: Ran, actions: usize, returned: &mut usize, barred: &mut usize) 
             0
         }
         Ran::Refused {
+            number,
+            returned: value,
+        } => {
+            *returned = value;
+            number
+        }
+    }
+}
+
+// Stores a depth, or what its refusal returns, and gives its number.
+fn told_depth(depth: Settled, returned: &mut usize) -> u8
+    ensures { λ r. ⌜ r ≡ depthNumber depth ⌝ }
+    ensures { λ _. ⌜ now (returned .exit) ≡ depthReturned depth ⌝ }
+{
+    match depth {
+        Settled::Done { depth: value } => {
+            *returned = value;
+            0
+        }
+        Settled::Refused {
             number,
             returned: value,
         } => {
@@ -126,6 +148,15 @@ pub extern "C" fn pilfstera_check_chart(chart: &[u8], returned: &mut usize) -> u
     ensures { λ _. ⌜ now (returned .exit) ≡ checkReturned (chartCheck (now (chart .entry))) ⌝ }
 {
     told_check(chart::check(chart), returned)
+}
+
+// The settling depth of a chart.
+#[no_mangle]
+pub extern "C" fn pilfstera_depth(chart: &[u8], returned: &mut usize) -> u8
+    ensures { λ r. ⌜ r ≡ depthNumber (chartDepth (now (chart .entry))) ⌝ }
+    ensures { λ _. ⌜ now (returned .exit) ≡ depthReturned (chartDepth (now (chart .entry))) ⌝ }
+{
+    told_depth(chart::depth(chart), returned)
 }
 
 // Runs an action sequence on a chart.

@@ -1,13 +1,14 @@
 -- Laws of the searches over the numbers below a bound.
-use Prim.Native.Nat.{ℕ, zero, suc, _≤_, _<_}
+use Prim.Native.Nat.{ℕ, zero, suc, _+_, _≤_, _<_}
 use native.Mathlib.Nat.{not-suc-le-zero, le-of-suc-le-suc, eq-or-lt-of-le}
+use native.Mathlib.Decide.{decLe}
 use native.Mathlib.Omega.{arith}
 use mathlib.Core.Path.{_≡_, refl, sym, ap, subst, _∙_}
 use mathlib.Core.Logic.{_↔_, _⊎_, inl, inr, ⊎-elim, Equivalence}
-use mathlib.Core.Bool.{Bool, true, false, _||_, _&&_}
+use mathlib.Core.Bool.{Bool, true, false, not, _||_, _&&_}
 use lib.Dec.{T, eqb, eqb→eq}
 use borrow.Author.Tests.{eq-eqb}
-use Rattle.systems.specs.Search.{run, any, all, least}
+use Rattle.systems.specs.Search.{run, any, all, count, least}
 
 -- a test passes or fails
 pub told : (b : Bool) → (b ≡ true) ⊎ (b ≡ false)
@@ -53,6 +54,11 @@ pub both : (a b : Bool) → T (a && b) ↔ (T a × T b)
 both true b = (λ t. (tt, t), λ t. t .1)
 both false b = (λ t. absurd t, λ t. t .0)
 
+-- a negation is a refutation
+pub not-tells : (b : Bool) → T (not b) ↔ (T b → ⊥)
+not-tells true = (λ t u. t, λ f. f tt)
+not-tells false = (λ t u. u, λ f. tt)
+
 -- a number below n + 1 is n or below n
 pub below-suc : {i n : ℕ} → i < suc n → (i ≡ n) ⊎ (i < n)
 below-suc h = eq-or-lt-of-le (le-of-suc-le-suc h)
@@ -96,6 +102,35 @@ run-ext z op f g (suc n) e =
     let r = run-ext z op f g n (λ i h. e i (omega arith)) in
     let l = e n (omega arith) in
     cc
+
+-- tests that agree below n have the same count
+pub count-ext : (p q : ℕ → Bool) (n : ℕ) → ((i : ℕ) → i < n → p i ≡ q i) → count p n ≡ count q n
+unfolding count
+count-ext p q n e =
+    run-ext 0 _+_ (λ i. elim (p i) [ true ↦ 1 | false ↦ 0 ]) (λ i. elim (q i) [ true ↦ 1 | false ↦ 0 ]) n
+    (λ i h. ap (λ (b : Bool). elim b [ true ↦ 1 | false ↦ 0 ]) (e i h))
+
+count-passed : (p : ℕ → Bool) (n : ℕ) → p n ≡ true → count p (suc n) ≡ suc (count p n)
+unfolding count run
+count-passed p n e = rw e (omega arith)
+
+count-failed : (p : ℕ → Bool) (n : ℕ) → p n ≡ false → count p (suc n) ≡ count p n
+unfolding count run
+count-failed p n e = rw e (omega arith)
+
+-- the count of a test that all numbers below k pass, and none from k on
+pub count-is : (p : ℕ → Bool) (n k : ℕ) → k ≤ n → ((i : ℕ) → i < k → T (p i)) → ((i : ℕ) → k ≤ i → i < n → T (p i) → ⊥) → count p n ≡ k
+unfolding count run
+count-is p zero k h f g = omega arith
+count-is p (suc n) k h f g =
+    ⊎-elim
+    (λ e.
+    let q = count-is p n n (omega arith) (λ i l. f i (omega arith)) (λ i a b t. omega arith) in
+    count-passed p n (is-true (p n) (f n (omega arith))) ∙ ap suc q ∙ sym e)
+    (λ l.
+    let b : k ≤ n = le-of-suc-le-suc l in
+    count-failed p n (is-false (p n) (g n b (omega arith))) ∙ count-is p n k b f (λ i a m t. g i a (omega arith) t))
+    (eq-or-lt-of-le h)
 
 pub least-here : (p : ℕ → Bool) (n : ℕ) → p zero ≡ true → least p (suc n) ≡ zero
 unfolding least
@@ -143,6 +178,14 @@ least-least p (suc n) = ⊎-elim here (later (least-least (λ i. p (suc i)) n)) 
 pub least-lt : (p : ℕ → Bool) (n i : ℕ) → i < n → T (p i) → least p n < n
 least-lt p n i h t = ⊎-elim (λ e. absurd (least-least p n .first i (omega arith) t)) (λ l. l) (eq-or-lt-of-le (least-least p n .le))
 
+-- and at what passes at the latest
+pub least-le : (p : ℕ → Bool) (n i : ℕ) → T (p i) → least p n ≤ i
+least-le p n i t = go (decLe (least p n) i)
+  where
+    go : Dec (least p n ≤ i) → least p n ≤ i
+    go (yes h) = h
+    go (no h) = absurd (least-least p n .first i (omega arith) t)
+
 -- tests that agree below n have the same least
 pub least-ext : (p q : ℕ → Bool) (n : ℕ) → ((i : ℕ) → i < n → T (p i) ↔ T (q i)) → least p n ≡ least q n
 least-ext p q n e =
@@ -182,6 +225,14 @@ least-tells q n R E t i j hi hj =
     })
     i j hi hj in
     (λ p. t i j hi hj .0 (e .0 p), λ r. e .1 (t i j hi hj .1 r))
+
+-- the least that passes with j is no later than j, and is its own least
+pub least-own : (q : ℕ → ℕ → Bool) (n : ℕ) (R : ℕ → ℕ → Type 0) → Equivalence R → ((i j : ℕ) → i < n → j < n → T (q i j) ↔ R i j)
+    → (j : ℕ) → j < n → (least (q j) n ≤ j) × (least (q (least (q j) n)) n ≡ least (q j) n)
+least-own q n R E t j h =
+    let r = t j j h h .1 (E .refl j) in
+    let b = least-lt (q j) n j h r in
+    (least-le (q j) n j r, sym (least-tells q n R E t j (least (q j) n) h b .1 (t j (least (q j) n) h b .0 (least-least (q j) n .passes b))))
 
 -- a test for equal numbers
 pub eqb-tells : (a b : ℕ) → T (eqb a b) ↔ (a ≡ b)

@@ -10,7 +10,7 @@ use mathlib.Core.Option.{Option, some}
 use mathlib.Core.Bool.{Bool, true, false}
 use lib.Dec.{T, ltb, ltb→lt, lt→ltb}
 use lib.ListN.{length}
-use Rattle.systems.specs.Search.{run}
+use Rattle.systems.specs.Search.{run, count}
 use Rattle.systems.specs.System.{System, Alike}
 use Rattle.systems.specs.Alike.{Both, both-barred, both-open, AlikeTo, alike-to-suc, alike-to-le, alike-depths, alike-to-equivalence}
 use Rattle.systems.specs.Counting.{Finer, EquivalenceOn, classes, classes-le, classes-some, classes-finer, classes-same, numbers, numbers-length, numbers-mem}
@@ -27,7 +27,7 @@ changed l e k = ltb (classes (e k) l) (classes (e (suc k)) l)
 
 -- how many of the first m steps do
 unfoldable pub changes : {X : Type 0} → List X → (ℕ → X → X → Bool) → ℕ → ℕ
-changes l e = run 0 _+_ (λ k. elim (changed l e k) [ true ↦ 1 | false ↦ 0 ])
+changes l e = count (changed l e)
 
 module _ {X : Type 0} (l : List X) (e : ℕ → X → X → Bool) (C : Chain l e) where
   -- a step that makes no new class changes nothing
@@ -47,7 +47,7 @@ module _ {X : Type 0} (l : List X) (e : ℕ → X → X → Bool) (C : Chain l e
       go f (no h) = lt→ltb (classes (e k) l) (classes (e (suc k)) l) (omega arith)
 
   changes-grow : (m : ℕ) → classes (e 0) l + changes l e m ≤ classes (e m) l
-  unfolding changes run changed
+  unfolding changes count run changed
   changes-grow zero = omega arith
   changes-grow (suc m) = go (changes-grow m) (changed l e m) refl
     where

@@ -1,5 +1,5 @@
--- The worked examples of document 01, and some of version 2 (document 02, U4), computed on the definitions: a row for each, one test over the table, one
--- proof.
+-- The worked examples of document 01, and some of document 02 (version 2 of U4, depths of U6), computed on the definitions: a row for each, one test
+-- over the table, one proof.
 use mathlib.Core.Bool.{Bool, true, false, _&&_}
 use mathlib.Core.List.{List, [], _∷_}
 use mathlib.Core.Option.{Option, some, none}
@@ -13,7 +13,8 @@ use Rattle.integers.specs.Range.{contains, meet, vacant, size, smaller, larger}
 use Rattle.integers.specs.Division.{floorBy, floor, ceiling}
 use Rattle.integers.specs.Inverse.{inverse}
 use Rattle.integers.specs.LittleEndian.{joined, unsignedAt, signedOf, signedAt, split, bitsOf}
-use Rattle.systems.specs.Search.{run}
+use Rattle.systems.specs.Search.{run, count, least}
+use Rattle.systems.specs.Counting as counting
 use Rattle.systems.specs.Lists.{collect}
 use Rattle.systems.specs.System.{after, entry, written, earliest, firstBarred, reading}
 use Rattle.systems.specs.Exploration.{place, known, added, visited, visitedAt, visitedNext, explore}
@@ -23,6 +24,8 @@ use Rattle.answers.specs.Stages.{andThen, demand}
 use Rattle.model.specs.declared.Rule.the-variants.{Carry}
 use Rattle.model.specs.Sheet.{Move, Barred, Open, Region, Sheet, within, inBox, placeIn, regionNumber, regionOf, applied, updated, landing, moved, step, sheetSystem, sheetReading}
 use Rattle.model.specs.Blocks.{emptied, cut, cuts, preimage, narrowed, classBox, volume, volumes, configurations, classOf, sameClass, blocks, targetByte, chartRecord, chartOf, rangeBytes, boxRecord, boxListOf}
+use Rattle.model.specs.Chart.{recordAt, labelOf, targetOf, sameTarget, refines, roundClass}
+use Rattle.model.specs.ChartDepth.{parts, depthOf, labelCount, depthLimit}
 use Rattle.model.specs.Listing.{numbers, numbersIn, prefixed, valuesIn, members}
 use Rattle.sheet_bytes.specs.Layout.{versionOf, wide, boundSize, offsetLimit, moveSize, regionSize, startPlace, startValue, regionPlace, labelAt, stateAt, lowPlace, highPlace, movePlace, rulePlace, factorOf, offsetOf}
 use Rattle.sheet_bytes.specs.Decode.{ruleOf, moveOf, rangeAt, boxAt, moveAt, regionAt, startOf, decode}
@@ -43,6 +46,8 @@ pub data Row : Type 0 where
   boxes-row : ℕ → Sheet → List ℕ → Row
   -- an action sequence's entries and the index of its first barred action
   reading-row : Sheet → List ℕ → List ℕ → Option ℕ → Row
+  -- a chart's settling depth, and the greatest that its blocks and labels allow
+  depth-row : List ℕ → ℕ → ℕ → Row
 
 pub sameZ : ℤ → ℤ → Bool
 sameZ a b = leZ a b && leZ b a
@@ -72,6 +77,7 @@ test (accepted-row s l) = sameChecked (sheetCheck s) Fine && sameList (chartOf (
 test (refused-row s n p) = sameChecked (sheetCheck s) (Refused n p)
 test (boxes-row n s l) = sameList (boxListOf n s) l
 test (reading-row s w l b) = sameList (sheetReading s w .entries) l && sameOption (sheetReading s w .barred) b
+test (depth-row c d n) = eqb (depthOf c) d && eqb (depthLimit c) n
 
 -- every row passes
 pub passes : List Row → Bool
@@ -148,6 +154,13 @@ table =
     ∷ boxes-row 2 doubling (0 ∷ 0 ∷ 0 ∷ 0 ∷ 0 ∷ [])
     -- P9, as U5 of document 02 has it
     ∷ reading-row first (0 ∷ 0 ∷ 0 ∷ []) (10 ∷ 10 ∷ 20 ∷ 65535 ∷ []) (some 2)
+    -- the depths of P1's chart, of P5's, and of the first with three labels
+    ∷ depth-row (66 ∷ 67 ∷ 72 ∷ 1 ∷ 0 ∷ 1 ∷ 3 ∷ 10 ∷ 0 ∷ 1 ∷ 10 ∷ 0 ∷ 2 ∷ 20 ∷ 0 ∷ 255 ∷ []) 1 1
+    ∷ depth-row (66 ∷ 67 ∷ 72 ∷ 1 ∷ 0 ∷ 1 ∷ 1 ∷ 10 ∷ 0 ∷ 0 ∷ []) 0 0
+    ∷ depth-row (66 ∷ 67 ∷ 72 ∷ 1 ∷ 0 ∷ 1 ∷ 3 ∷ 10 ∷ 0 ∷ 1 ∷ 30 ∷ 0 ∷ 2 ∷ 20 ∷ 0 ∷ 255 ∷ []) 0 0
+    -- a chain of four blocks; a ring of four, which one action tells apart, where two labels would allow a depth of two
+    ∷ depth-row (66 ∷ 67 ∷ 72 ∷ 1 ∷ 0 ∷ 1 ∷ 4 ∷ 10 ∷ 0 ∷ 1 ∷ 10 ∷ 0 ∷ 2 ∷ 10 ∷ 0 ∷ 3 ∷ 20 ∷ 0 ∷ 255 ∷ []) 2 2
+    ∷ depth-row (66 ∷ 67 ∷ 72 ∷ 1 ∷ 0 ∷ 1 ∷ 4 ∷ 10 ∷ 0 ∷ 1 ∷ 10 ∷ 0 ∷ 2 ∷ 20 ∷ 0 ∷ 3 ∷ 20 ∷ 0 ∷ 0 ∷ []) 1 2
     -- P1 as version 2: the same chart, and bounds of four bytes
     ∷ accepted-row wideBytes (66 ∷ 67 ∷ 72 ∷ 1 ∷ 0 ∷ 1 ∷ 3 ∷ 10 ∷ 0 ∷ 1 ∷ 10 ∷ 0 ∷ 2 ∷ 20 ∷ 0 ∷ 255 ∷ [])
     ∷ boxes-row 4 mirror (0 ∷ 248 ∷ 255 ∷ 255 ∷ 255 ∷ 7 ∷ 0 ∷ 0 ∷ 0 ∷ [])
@@ -171,5 +184,5 @@ table =
     ∷ []
 
 pub worked-examples : T (passes table)
-unfolding passes test table sameZ sameList sameOption sameChecked bytes wideBytes changed region carry sheet first mirror doubling range smaller larger contains meet size floorBy floor ceiling inverse split bitsOf collect after entry written earliest firstBarred reading place known added visited visitedAt visitedNext explore within inBox placeIn regionNumber regionOf applied updated landing moved step sheetSystem sheetReading emptied cut cuts preimage narrowed classBox volume volumes configurations classOf sameClass blocks targetByte chartRecord chartOf rangeBytes boxRecord boxListOf joined unsignedAt signedOf signedAt vacant run andThen demand numbers numbersIn prefixed valuesIn members versionOf wide boundSize offsetLimit moveSize regionSize startPlace startValue regionPlace labelAt stateAt lowPlace highPlace movePlace rulePlace factorOf offsetOf ruleOf moveOf rangeAt boxAt moveAt regionAt startOf decode sameBytes checkHeader checkCounts checkLength checkValue checkBound checkRule checkZeroRule checkMove checkFields checkLimits checkLabel overlap checkOverlap checkStart every lands checkLanding sheetCheck
+unfolding passes test table sameZ sameList sameOption sameChecked bytes wideBytes changed region carry sheet first mirror doubling range smaller larger contains meet size floorBy floor ceiling inverse split bitsOf collect after entry written earliest firstBarred reading place known added visited visitedAt visitedNext explore within inBox placeIn regionNumber regionOf applied updated landing moved step sheetSystem sheetReading emptied cut cuts preimage narrowed classBox volume volumes configurations classOf sameClass blocks targetByte chartRecord chartOf rangeBytes boxRecord boxListOf joined unsignedAt signedOf signedAt vacant run andThen demand numbers numbersIn prefixed valuesIn members versionOf wide boundSize offsetLimit moveSize regionSize startPlace startValue regionPlace labelAt stateAt lowPlace highPlace movePlace rulePlace factorOf offsetOf ruleOf moveOf rangeAt boxAt moveAt regionAt startOf decode sameBytes checkHeader checkCounts checkLength checkValue checkBound checkRule checkZeroRule checkMove checkFields checkLimits checkLabel overlap checkOverlap checkStart every lands checkLanding sheetCheck count least counting.numbers counting.has counting.classes recordAt labelOf targetOf sameTarget refines roundClass parts depthOf labelCount depthLimit
 worked-examples = tt

@@ -1,5 +1,7 @@
-use mathlib.Core.Path.{sym, _∙_}
-use Rattle.answers.specs.Stages.{andThen, passed, handed}
+use mathlib.Core.Path.{_≡_, sym, _∙_}
+use Prim.Native.Nat.{ℕ}
+use native.Mathlib.Omega.{arith}
+use Rattle.answers.specs.Stages.{andThen, stop, go-on}
 use Rattle.chart_bytes.specs.HeaderLaws.{header-passed}
 use Rattle.chart.specs.Check.{limitsCheck, numbersCheck, barsCheck, formCheck}
 use borrow.Author.Needs.{needs}
@@ -18,12 +20,12 @@ enum-told-2 c = search needs
 returns : tie.Need-returns
 unfolding formCheck
 returns c =
-    let s = c .before .before .before .before .args .c .now in
-    let e = c .before .before .check-header .ensures in
-    e ∙ handed (andThen (limitsCheck s) (andThen (numbersCheck s) (barsCheck s))) (sym e ∙ c .enum-told2 .given .1)
+    let s = c .before .before .before .before .before in
+    let k = s .args .c .now in
+    (stop (andThen (limitsCheck k) (andThen (numbersCheck k) (barsCheck k))) (c .before .before .check-header .ensures) (c .enum-told2 .given .1), (λ e. let q = c .enum-told2 .given .1 in let z : _≡_ {A = ℕ} 0 1 = cc in absurd (omega arith), s .pre))
 
 check-limits-requires : tie.Need-check-limits-requires
-check-limits-requires c κs = header-passed (c .before .before .before .before .args .c .now) (sym (c .before .before .check-header .ensures) ∙ c .enum-told .given .1) .1
+check-limits-requires c κs = header-passed (c .before .before .before .before .before .args .c .now) (sym (c .before .before .check-header .ensures) ∙ c .enum-told .given .1) .1
 
 enum-told-3 : tie.Need-enum-told-3
 enum-told-3 c = search needs
@@ -34,13 +36,14 @@ enum-told-4 c = search needs
 returns-2 : tie.Need-returns-2
 unfolding formCheck
 returns-2 c =
-    let s = c .before .before .before .before .before .before .before .args .c .now in
-    let e = c .before .before .check-limits .ensures in
-    passed (sym (c .before .before .before .before .before .check-header .ensures) ∙ c .before .before .before .enum-told .given .1)
-    (e ∙ handed (andThen (numbersCheck s) (barsCheck s)) (sym e ∙ c .enum-told4 .given .1))
+    let s = c .before .before .before .before .before .before .before .before in
+    let k = s .args .c .now in (
+      go-on (c .before .before .before .before .before .check-header .ensures) (c .before .before .before .enum-told .given .1) (stop (andThen (numbersCheck k) (barsCheck k)) (c .before .before .check-limits .ensures) (c .enum-told4 .given .1)),
+      (λ e. let q = c .enum-told4 .given .1 in let z : _≡_ {A = ℕ} 0 1 = cc in absurd (omega arith), s .pre),
+    )
 
 check-numbers-requires : tie.Need-check-numbers-requires
-check-numbers-requires c κs = header-passed (c .before .before .before .before .before .before .before .args .c .now) (sym (c .before .before .before .before .before .check-header .ensures) ∙ c .before .before .before .enum-told .given .1) .1
+check-numbers-requires c κs = header-passed (c .before .before .before .before .before .before .before .before .args .c .now) (sym (c .before .before .before .before .before .check-header .ensures) ∙ c .before .before .before .enum-told .given .1) .1
 
 enum-told-5 : tie.Need-enum-told-5
 enum-told-5 c = search needs
@@ -51,20 +54,31 @@ enum-told-6 c = search needs
 returns-3 : tie.Need-returns-3
 unfolding formCheck
 returns-3 c =
-    let s = c .before .before .before .before .before .before .before .before .before .before .args .c .now in
-    let e = c .before .before .check-numbers .ensures in
-    passed (sym (c .before .before .before .before .before .before .before .before .check-header .ensures) ∙ c .before .before .before .before .before .before .enum-told .given .1)
-    (passed (sym (c .before .before .before .before .before .check-limits .ensures) ∙ c .before .before .before .enum-told3 .given .1) (e ∙ handed (barsCheck s) (sym e ∙ c .enum-told6 .given .1)))
+    let s = c .before .before .before .before .before .before .before .before .before .before .before in (
+      go-on (c .before .before .before .before .before .before .before .before .check-header .ensures) (c .before .before .before .before .before .before .enum-told .given .1)
+          (go-on (c .before .before .before .before .before .check-limits .ensures) (c .before .before .before .enum-told3 .given .1) (stop (barsCheck (s .args .c .now)) (c .before .before .check-numbers .ensures) (c .enum-told6 .given .1))),
+      (λ e. let q = c .enum-told6 .given .1 in let z : _≡_ {A = ℕ} 0 1 = cc in absurd (omega arith), s .pre),
+    )
+
+by-labels-requires : tie.Need-by-labels-requires
+by-labels-requires c κs = (header-passed (c .before .before .before .before .before .before .before .before .before .before .before .before .args .c .now) (sym (c .before .before .before .before .before .before .before .before .before .check-header .ensures) ∙ c .before .before .before .before .before .before .before .enum-told .given .1) .1, c .before .before .before .before .before .before .before .before .before .before .before .before .pre)
 
 check-bars-requires : tie.Need-check-bars-requires
-check-bars-requires c κs = header-passed (c .before .before .before .before .before .before .before .before .before .before .args .c .now) (sym (c .before .before .before .before .before .before .before .before .check-header .ensures) ∙ c .before .before .before .before .before .before .enum-told .given .1) .1
+check-bars-requires c κs =
+    let t = c .before .before .before .by-labels .ensures in
+    (header-passed (c .before .before .before .before .before .before .before .before .before .before .before .before .before .before .before .before .args .c .now) (sym (c .before .before .before .before .before .before .before .before .before .before .before .before .before .check-header .ensures) ∙ c .before .before .before .before .before .before .before .before .before .before .before .enum-told .given .1) .1, (t .1, t .0))
+
+same-length : tie.Need-same-length
+same-length c = search needs
 
 returns-4 : tie.Need-returns-4
 unfolding formCheck
 returns-4 c =
-    passed (sym (c .before .before .before .before .before .before .before .before .before .check-header .ensures) ∙ c .before .before .before .before .before .before .before .enum-told .given .1)
-    (passed (sym (c .before .before .before .before .before .before .check-limits .ensures) ∙ c .before .before .before .before .enum-told3 .given .1)
-    (passed (sym (c .before .before .before .check-numbers .ensures) ∙ c .before .enum-told5 .given .1) (c .check-bars .ensures)))
+    let t = c .before .before .before .before .by-labels .ensures in (
+      go-on (c .before .before .before .before .before .before .before .before .before .before .before .before .before .before .check-header .ensures) (c .before .before .before .before .before .before .before .before .before .before .before .before .enum-told .given .1)
+          (go-on (c .before .before .before .before .before .before .before .before .before .before .before .check-limits .ensures) (c .before .before .before .before .before .before .before .before .before .enum-told3 .given .1) (go-on (c .before .before .before .before .before .before .before .before .check-numbers .ensures) (c .before .before .before .before .before .before .enum-told5 .given .1) (c .check-bars .ensures))),
+      (λ e. t .0, t .1),
+    )
 
 pub check-form-spec : {M : Type 1} → statement M
 check-form-spec =
@@ -82,5 +96,7 @@ check-form-spec =
     enum-told-5
     enum-told-6
     returns-3
+    by-labels-requires
     check-bars-requires
+    same-length
     returns-4)

@@ -1,65 +1,44 @@
-use borrow.Author.Needs.{needs}
-use mathlib.Core.Path.{_≡_}
-use Prim.Native.Nat.{_-_, _≤_}
 use native.Mathlib.Omega.{arith}
-use Rattle.answers.specs.declared.Checked.the-variants.{Fine}
-use Rattle.answers.specs.Stages.{each, each-none}
-use Rattle.answers.specs.Loops.{each-passed, each-refused, each-ended}
-use Rattle.chart.specs.Check.{barCheck}
+use Rattle.chart.specs.Bars.{bar-later}
+use Rattle.chart_bytes.specs.Classes.{holds-ordered}
+use borrow.Author.Needs.{needs}
 use Rattle.chart.proofs.bars.check_later.Statement.{statement}
 use Rattle.chart.proofs.bars.check_later.Tie as tie
 
-abbrev Inv-loop : tie.InvT-loop
-Inv-loop c j i₀ i = (i ≤ j) × (each (barCheck c j) i ≡ Fine)
+shared-slice-read-first : tie.Need-shared-slice-read-first
+shared-slice-read-first c = search needs
 
-abbrev μ-loop : tie.MeasureT-loop
-μ-loop c j i₀ i = j - i
+cast-first : tie.Need-cast-first
+cast-first c = omega (arith, c .shared-slice-known3 .given (c .before .before .before .args .j))
 
-loop-holds : tie.Need-loop-holds Inv-loop μ-loop
-loop-holds c = let s = c .before .args in (omega arith, each-none (barCheck (s .c .now) (s .j)))
+same-bars-requires : tie.Need-same-bars-requires
+same-bars-requires c κs =
+    let s = c .before .before .before in
+    let b = holds-ordered (s .args .c .now) (s .args .f .now) 0 (s .pre .1 .1 .0) (s .args .j) (s .pre .1 .1 .1) in
+    (s .pre .0, (omega arith, s .pre .1 .1 .1))
 
-check-pair-requires : tie.Need-check-pair-requires Inv-loop μ-loop
-check-pair-requires c κs = search needs
+record-at-requires : tie.Need-record-at-requires
+record-at-requires c κs =
+    let s = c .before .before .before .before in
+    let b = holds-ordered (s .args .c .now) (s .args .f .now) 0 (s .pre .1 .1 .0) (s .args .j) (s .pre .1 .1 .1) in
+    (s .pre .0, omega arith)
 
-enum-told : tie.Need-enum-told Inv-loop μ-loop
-enum-told c = search needs
+demanded-requires : tie.Need-demanded-requires
+demanded-requires c κs = search needs
 
-enum-told-2 : tie.Need-enum-told-2 Inv-loop μ-loop
-enum-told-2 c = search needs
-
-returns : tie.Need-returns Inv-loop μ-loop
+returns : tie.Need-returns
 returns c =
-    let s = c .before .before .before .before .before .before .args in
-    each-refused (barCheck (s .c .now) (s .j)) (c .before .before .before .before .loop .i) (s .j) (c .before .before .before .before .loop .inv .1) (omega arith) (c .before .before .check-pair .ensures) (c .enum-told2 .given .1)
-
-add-i : tie.Need-add-i Inv-loop μ-loop
-add-i c = search needs
-
-loop-less : tie.Need-loop-less Inv-loop μ-loop
-loop-less c = search needs
-
-loop-again : tie.Need-loop-again Inv-loop μ-loop
-loop-again c =
-    let s = c .before .before .before .before .before .before .args in
-    (omega arith, each-passed (barCheck (s .c .now) (s .j)) (c .before .before .before .before .loop .i) (c .before .before .before .before .loop .inv .1) (c .before .before .check-pair .ensures) (c .enum-told .given .1))
-
-returns-2 : tie.Need-returns-2 Inv-loop μ-loop
-returns-2 c =
-    let s = c .before .before .before .args in
-    each-ended (barCheck (s .c .now) (s .j)) (c .before .loop .i) (s .j) (c .before .loop .inv .1) (omega arith) (omega arith)
+    let s = c .before .before .before .before .before .before in
+    let h = s .pre .1 .1 .1 in
+    bar-later (s .args .c .now) (s .args .j) h (s .pre .1 .1 .0 .at (s .args .j) h) (c .before .before .same-bars .ensures) (c .before .record-at .ensures) (c .demanded .ensures)
 
 pub check-later-spec : {M : Type 1} → statement M
 check-later-spec =
     tie.close
     (tie.spec
-    Inv-loop
-    μ-loop
-    loop-holds
-    check-pair-requires
-    enum-told
-    enum-told-2
-    returns
-    add-i
-    loop-less
-    loop-again
-    returns-2)
+    shared-slice-read-first
+    cast-first
+    same-bars-requires
+    record-at-requires
+    demanded-requires
+    returns)

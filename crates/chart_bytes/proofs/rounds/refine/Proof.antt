@@ -22,7 +22,7 @@ loop-holds : tie.Need-loop-holds Inv-loop μ-loop
 loop-holds c = (omega arith, refl, λ k h. absurd (omega arith))
 
 refined-class-requires : tie.Need-refined-class-requires Inv-loop μ-loop
-refined-class-requires c κs = search needs
+refined-class-requires c κs = let p = c .before .before .before .before .before .before .pre in (p .0, (p .1 .0, (p .1 .1 .1, omega arith)))
 
 cast-g : tie.Need-cast-g Inv-loop μ-loop
 cast-g c = omega arith

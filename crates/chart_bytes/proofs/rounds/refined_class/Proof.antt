@@ -4,7 +4,7 @@ use mathlib.Core.Bool.{false}
 use Prim.Native.Nat.{ℕ, _-_, _≤_, _<_}
 use native.Mathlib.Omega.{arith}
 use Rattle.model.specs.Chart.{refines}
-use Rattle.chart_bytes.specs.Classes.{entry, class-found, refines-refl, below-next}
+use Rattle.chart_bytes.specs.Classes.{entry, class-found, refines-refl, below-next, class-below}
 use Rattle.chart_bytes.proofs.rounds.refined_class.Statement.{statement}
 use Rattle.chart_bytes.proofs.rounds.refined_class.Tie as tie
 
@@ -14,15 +14,28 @@ Inv-loop c f i j₀ j = (j ≤ i) × ((k : ℕ) → k < j → refines c (entry f
 abbrev μ-loop : tie.MeasureT-loop
 μ-loop c f i j₀ j = i - j
 
+shared-slice-read-j : tie.Need-shared-slice-read-j Inv-loop μ-loop
+shared-slice-read-j c = omega arith
+
+cast-j : tie.Need-cast-j Inv-loop μ-loop
+cast-j c =
+    let s = c .before .before .before in
+    let b = s .pre .1 .1 .0 (s .args .i) (s .pre .1 .1 .1) in
+    omega arith
+
 loop-holds : tie.Need-loop-holds Inv-loop μ-loop
-loop-holds c = (omega arith, λ k h. absurd (omega arith))
+loop-holds c =
+    let s = c .before .before .before in
+    let o = s .pre .1 .1 .0 in
+    let h = s .pre .1 .1 .1 in
+    (o (s .args .i) h, class-below (s .args .c .now) (s .args .f .now) (s .args .i) o h)
 
 agrees-requires : tie.Need-agrees-requires Inv-loop μ-loop
 agrees-requires c κs = search needs
 
 returns : tie.Need-returns Inv-loop μ-loop
 returns c =
-    let s = c .before .before .before .before .before .before .args in
+    let s = c .before .before .before .before .before .before .before .args in
     let l = c .before .before .before .loop in
     class-found (s .c .now) (s .f .now) (s .i) (l .j) (l .inv .0) (omega arith) (l .inv .1) (sym (c .before .agrees .ensures) ∙ c .if1 .taken)
 
@@ -37,7 +50,7 @@ loop-again c = let l = c .before .before .before .loop in (omega arith, below-ne
 
 returns-2 : tie.Need-returns-2 Inv-loop μ-loop
 returns-2 c =
-    let s = c .before .before .before .before .args in
+    let s = c .before .before .before .before .before .args in
     let l = c .before .loop in
     class-found (s .c .now) (s .f .now) (s .i) (s .i) (omega arith) (omega arith) (λ k h. l .inv .1 k (omega arith)) (refines-refl (s .c .now) (entry (s .f .now)) (s .i))
 
@@ -47,6 +60,8 @@ refined-class-spec =
     (tie.spec
     Inv-loop
     μ-loop
+    shared-slice-read-j
+    cast-j
     loop-holds
     agrees-requires
     returns

@@ -23,7 +23,10 @@ shared-slice-read-if1-2 : tie.Need-shared-slice-read-if1-2 Inv-loop μ-loop
 shared-slice-read-if1-2 c = omega arith
 
 returns : tie.Need-returns Inv-loop μ-loop
-returns c = λ e i h. let z : _≡_ {A = ℕ} 0 1 = cc in absurd (omega arith)
+returns c = (
+  λ e i h. let z : _≡_ {A = ℕ} 0 1 = cc in absurd (omega arith),
+  λ e. record { at = c .before .before .before .before .loop .i; within = omega arith; differs = c .if1 .taken },
+)
 
 add-i : tie.Need-add-i Inv-loop μ-loop
 add-i c = search needs
@@ -35,7 +38,7 @@ loop-again : tie.Need-loop-again Inv-loop μ-loop
 loop-again c = let l = c .before .before .before .before .loop in (omega arith, below-next (l .i) (l .inv .1) (c .if1 .left))
 
 returns-2 : tie.Need-returns-2 Inv-loop μ-loop
-returns-2 c = λ e i h. c .before .loop .inv .1 i (omega arith)
+returns-2 c = (λ e i h. c .before .loop .inv .1 i (omega arith), λ e. let z : _≡_ {A = ℕ} 0 1 = cc in absurd (omega arith))
 
 pub same-classes-spec : {M : Type 1} → statement M
 same-classes-spec =

@@ -1,7 +1,7 @@
 use mathlib.Core.Path.{_≡_, refl, _∙_}
 use Prim.Native.Nat.{ℕ}
 use native.Mathlib.Omega.{arith}
-use Rattle.chart_bytes.specs.Classes.{settled-same, settled-moved}
+use Rattle.chart_bytes.specs.Classes.{settled-same, settled-moved, differ-moved}
 use borrow.Author.Needs.{needs}
 use Rattle.chart_bytes.proofs.rounds.settled.Statement.{statement}
 use Rattle.chart_bytes.proofs.rounds.settled.Tie as tie
@@ -25,8 +25,8 @@ returns : tie.Need-returns
 returns c =
     let s = c .before .before .before .before .before .before .before .before .before .before .before .before .before .args in
     let r = c .before .before .before .before .before .before .before .refine in (
-      settled-same (s .c .now) (s .f .now) (r .last .1 .1 .0) (c .before .before .before .before .blocks-of .result) (c .before .before .before .before .blocks-of .ensures) (r .ensures .0) (c .before .same-classes .ensures (c .if1 .taken)),
-      (λ e. refl, (c .before .before .before .before .before .before .before .before .before .before .before .before .before .pre .1 .0, r .ensures .1)),
+      settled-same (s .c .now) (s .f .now) (r .last .1 .1 .0) (c .before .before .before .before .blocks-of .result) (c .before .before .before .before .blocks-of .ensures) (r .ensures .0) (c .before .same-classes .ensures .0 (c .if1 .taken)),
+      (λ e. refl, (λ e. let z : _≡_ {A = ℕ} 0 1 = cc in absurd (omega arith), (c .before .before .before .before .before .before .before .before .before .before .before .before .before .pre .1 .0, r .ensures .1))),
     )
 
 take-over-requires : tie.Need-take-over-requires
@@ -42,9 +42,16 @@ returns-2 : tie.Need-returns-2
 returns-2 c =
     let s = c .before .before .before .before .before .before .before .before .before .before .before .before .before .before .before .before .before .before .args in
     let r = c .before .before .before .before .before .before .before .before .before .before .before .before .refine in
-    let t = c .before .before .take-over in (
-      settled-moved (s .c .now) (s .f .now) (r .last .1 .1 .0) (t .last .0) (c .before .before .before .before .before .before .before .before .before .blocks-of .result) (c .before .before .before .before .before .before .before .before .before .blocks-of .ensures) (r .ensures .0) (t .ensures .0),
-      (λ e. let z : _≡_ {A = ℕ} 0 1 = cc in absurd (omega arith), (t .ensures .1 ∙ c .before .before .before .before .before .before .before .before .before .before .before .before .before .before .before .before .before .before .pre .1 .0, r .ensures .1)),
+    let t = c .before .before .take-over in
+    let n = c .before .before .before .before .before .before .before .before .before .blocks-of in (
+      settled-moved (s .c .now) (s .f .now) (r .last .1 .1 .0) (t .last .0) (n .result) (n .ensures) (r .ensures .0) (t .ensures .0),
+      (
+        λ e. let z : _≡_ {A = ℕ} 0 1 = cc in absurd (omega arith),
+        (
+          λ e. differ-moved (s .f .now) (r .last .1 .1 .0) (t .last .0) (n .ensures) (c .before .before .before .before .before .before .same-classes .ensures .1 (c .before .before .before .before .before .if1 .left)) (t .ensures .0),
+          (t .ensures .1 ∙ c .before .before .before .before .before .before .before .before .before .before .before .before .before .before .before .before .before .before .pre .1 .0, r .ensures .1),
+        ),
+      ),
     )
 
 pub settled-spec : {M : Type 1} → statement M
