@@ -1,7 +1,8 @@
 /* Pilfstera for C and C++: link libpilfstera.a, which `rt staticlib pilfstera` writes into target/staticlib.
 
-   Each function returns 0 where it was done, else the number of the refusal, 1 to 14, and stores a number through `returned`: what
-   its comment says where it was done, else what the table says. A refusal alters no buffer. Nothing is asked of what the buffers hold.
+   Each function returns 0 where it was done, else the number of the refusal, 1 to 14 or 19, and stores a number through `returned`:
+   what its comment says where it was done, else what the table says. A refusal alters no buffer. Nothing is asked of what the buffers
+   hold.
 
    A slice is a pointer and a length, in bytes or in entries of 16 bits. A pointer beside a length of 0 is not read, but is not null
    either. No two of the buffers and numbers that are written may overlap, and none of them a buffer that is read. The functions
@@ -30,6 +31,8 @@
     12      chart              blocks not numbered as first named                           place of the target or record
     13      chart              same label, other actions barred                             place of the later record
     14      chart              two blocks that no sequence tells apart                      place of the later record
+    19      set-point          no carry rule with allowed factor and offset, or the
+                               wanted value beyond its bounds                               0
 
    Places count bytes from 0. The first check that fails gives the refusal. Checks run in the order of their numbers, except that a
    run checks its sheet or chart, then 3 for the sequence, 11, 10. */
@@ -65,6 +68,13 @@ enum { PILFSTERA_MOST_BLOCKS = 255, PILFSTERA_MOST_ACTIONS = 8, PILFSTERA_MOST_C
 /* What a run writes in the place of a label for an action that is barred. No label is this number: as one it is refused 4. */
 enum { PILFSTERA_SKIPPED = 65535 };
 
+/* Kinds of a rule, as in a sheet's rule record: a set rule gives one value whatever the old one was, a carry rule factor * x + offset
+   for the old value x. */
+enum { PILFSTERA_SET = 0, PILFSTERA_CARRY = 1 };
+
+/* Most that a carry rule's factor, its offset and a wanted value are without their signs, as in version 2 of the sheet. No factor is 0. */
+enum { PILFSTERA_MOST_FACTOR = 100, PILFSTERA_MOST_OFFSET = 200000000, PILFSTERA_MOST_VALUE = 1000000 };
+
 #ifdef __cplusplus
 extern "C" {
 #endif
@@ -98,6 +108,21 @@ uint8_t pilfstera_run_sheet(const uint8_t *sheet, size_t length, const uint8_t *
                             size_t room, size_t *returned, size_t *barred);
 uint8_t pilfstera_run_chart(const uint8_t *chart, size_t length, const uint8_t *actions, size_t count, uint16_t *entries,
                             size_t room, size_t *returned, size_t *barred);
+
+/* The set-point of a rule, the old value that brings a counter to a wanted reading or just below it: refusal 19. A carry rule gives
+   factor * x + offset for the old value x. `old` is the x and `remainder` the r with wanted - offset = factor * x + r and r from 0 to one
+   less than the factor without its sign. Exactly one such pair exists, for a negative factor and a negative wanted value too. A fitter
+   reads from it that with x the rule gives wanted - r, so just the wanted value where r is 0. For a positive factor no greater old value
+   stays at or below the wanted value, for a negative factor no smaller one. So a carry with factor 3 and offset 5 and the wanted value 16
+   give x = 3 and r = 2, since 3 * 3 + 5 = 14 is 2 below. `returned` is 0. x is at most 201,000,000 without its sign and need not lie in
+   any region; r is at most 99.
+
+   Refused are every `kind` but PILFSTERA_CARRY, whatever the other numbers are, a factor that is 0 or beyond PILFSTERA_MOST_FACTOR, an
+   offset beyond PILFSTERA_MOST_OFFSET, and a wanted value beyond PILFSTERA_MOST_VALUE, on either side of 0. A refusal leaves `old` and
+   `remainder` as they were. Any numbers may be handed in, the ends of int64_t too. The source of the rule plays no part. It takes a fixed
+   number of steps. */
+uint8_t pilfstera_set_point(uint8_t kind, int64_t factor, int64_t offset, int64_t wanted, size_t *returned, int64_t *old,
+                            int64_t *remainder);
 
 #ifdef __cplusplus
 }

@@ -87,13 +87,28 @@ mod library {
         actions + 1
     }
 
+    /// The kind of a rule that sets, as in a sheet's rule record: it gives one value whatever the old one was.
+    pub const SET: u8 = 0;
+
+    /// The kind of a rule that carries: it gives factor * x + offset for the old value x.
+    pub const CARRY: u8 = 1;
+
+    /// The most that the factor of a carry rule is without its sign. No factor is 0.
+    pub const MOST_FACTOR: i64 = 100;
+
+    /// The most that the offset of a carry rule is without its sign, as in version 2 of the sheet.
+    pub const MOST_OFFSET: i64 = 200_000_000;
+
+    /// The most that a wanted value is without its sign: the limit of a bound in version 2 of the sheet.
+    pub const MOST_VALUE: i64 = 1_000_000;
+
     /// Why a call was turned back. It altered no buffer. As text it says so in words.
     #[derive(Clone, Copy, PartialEq, Eq, Debug)]
     pub struct Refusal {
-        /// The refusal's number, 1 to 14: the first check that failed.
+        /// The refusal's number, 1 to 14 or 19: the first check that failed.
         pub number: u8,
         /// By number: 2, 4 to 8 and 12 to 14 the place in the sheet or chart, in bytes from 0; 3 the actual length, 10 the length needed,
-        /// 11 the index of the action; 1 and 9 nothing, and 0.
+        /// 11 the index of the action; 1, 9 and 19 nothing, and 0.
         pub returned: usize,
     }
 
@@ -115,6 +130,10 @@ mod library {
                 12 => ("the blocks are not numbered as first named", "the target or record that shows it stands there"),
                 13 => ("two blocks of one label bar different actions", "the later record stands there"),
                 14 => ("two blocks are told apart by no sequence", "the later record stands there"),
+                19 => (
+                    "the rule is no carry with allowed factor and offset, or the wanted value is beyond its bounds",
+                    "no place is told",
+                ),
                 _ => ("no refusal has this number", "what is returned has no meaning"),
             }
         }
@@ -136,6 +155,15 @@ mod library {
         pub entries: usize,
         /// The index, from 0, of the first barred action; nothing where none was barred.
         pub barred: Option<usize>,
+    }
+
+    /// An old value of a carry rule, and how far below the wanted value it leads.
+    #[derive(Clone, Copy, PartialEq, Eq, Debug)]
+    pub struct SetPoint {
+        /// The old value x, at most 201,000,000 without its sign. It need not lie in any region.
+        pub old: i64,
+        /// What the wanted value is above factor * x + offset, from 0 to one less than the factor without its sign, so at most 99.
+        pub remainder: i64,
     }
 
     // The library's exports as include/pilfstera.h has them: a slice is a pointer and a length.
@@ -171,6 +199,15 @@ mod library {
             room: usize,
             returned: *mut usize,
             barred: *mut usize,
+        ) -> u8;
+        pub(super) fn pilfstera_set_point(
+            kind: u8,
+            factor: i64,
+            offset: i64,
+            wanted: i64,
+            returned: *mut usize,
+            old: *mut i64,
+            remainder: *mut i64,
         ) -> u8;
     }
 
@@ -269,5 +306,19 @@ mod library {
     /// then the sequence and the buffer likewise. A sheet and its chart read the same.
     pub fn run_chart(chart: &[u8], actions: &[u8], entries: &mut [u16]) -> Result<Run, Refusal> {
         run(pilfstera_run_chart, chart, actions, entries)
+    }
+
+    /// The set-point of a rule, the old value that brings a counter to a wanted reading or just below it: the one old value x and remainder
+    /// r with wanted - offset = factor * x + r and r from 0 to one less than the factor without its sign, for a negative factor and a
+    /// negative wanted value too. With x the rule gives wanted - r. For a positive factor no greater old value stays at or below the wanted
+    /// value, for a negative factor no smaller one. So a carry with factor 3 and offset 5 and the wanted value 16 give x = 3 and r = 2,
+    /// since 3 * 3 + 5 = 14 is 2 below. It refuses with 19 every kind but [`CARRY`], whatever the other numbers are, a factor that is 0 or
+    /// beyond [`MOST_FACTOR`], an offset beyond [`MOST_OFFSET`], and a wanted value beyond [`MOST_VALUE`], on either side of 0. Any numbers
+    /// may be handed in. The source of the rule plays no part. It takes a fixed number of steps.
+    pub fn set_point(kind: u8, factor: i64, offset: i64, wanted: i64) -> Result<SetPoint, Refusal> {
+        let (mut returned, mut old, mut remainder) = (0, 0, 0);
+        // SAFETY: four numbers of which nothing is asked, and three of our own to write.
+        let number = unsafe { pilfstera_set_point(kind, factor, offset, wanted, &mut returned, &mut old, &mut remainder) };
+        answer(number, returned, SetPoint { old, remainder })
     }
 }

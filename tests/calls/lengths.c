@@ -1,5 +1,7 @@
-/* Writes the lengths and limits of the header, as C and as C++, the refusal of an empty sheet and the depth of the sample chart. */
+/* Writes the lengths and limits of the header, as C and as C++, the refusal of an empty sheet, the depth of the sample chart, and the
+   set-points of a carry rule and of a set rule. */
 #include "pilfstera.h"
+#include <inttypes.h>
 #include <stdio.h>
 
 int main(void) {
@@ -9,15 +11,22 @@ int main(void) {
     uint16_t entries[PILFSTERA_RUN_ROOM(PILFSTERA_ACTIONS)];
     uint8_t sheet[1] = {0}, sample[] = {'B', 'C', 'H', 1, 0, 1, 3, 10, 0, 1, 10, 0, 2, 20, 0, 255};
     size_t returned = 1;
+    int64_t old = 0, remainder = 0;
     printf("%d %d %d %d\n", PILFSTERA_SHEET, PILFSTERA_CHART, PILFSTERA_LIST, PILFSTERA_ACTIONS);
     printf("%d %d\n", PILFSTERA_VERSION_1_SHEET, PILFSTERA_VERSION_1_LIST);
     printf("%d %d %d %d\n", PILFSTERA_MOST_BLOCKS, PILFSTERA_MOST_ACTIONS, PILFSTERA_MOST_COUNTERS, PILFSTERA_MOST_REGIONS);
     printf("%zu %zu %zu %zu\n", sizeof chart, sizeof narrow, sizeof wide, sizeof entries / sizeof entries[0]);
     printf("%zu %zu\n", PILFSTERA_BOUND_SIZE(1), PILFSTERA_BOUND_SIZE(2));
     printf("%d\n", PILFSTERA_SKIPPED);
+    printf("%d %d %d %d %d\n", PILFSTERA_SET, PILFSTERA_CARRY, PILFSTERA_MOST_FACTOR, PILFSTERA_MOST_OFFSET, PILFSTERA_MOST_VALUE);
     unsigned refused = pilfstera_check_sheet(sheet, 0, &returned);
     printf("refused %u at %zu\n", refused, returned);
     if (pilfstera_depth(sample, sizeof sample, &returned) == 0)
         printf("depth %zu\n", returned);
+    if (pilfstera_set_point(PILFSTERA_CARRY, 3, 5, 16, &returned, &old, &remainder) == 0)
+        printf("old value %" PRId64 ", remainder %" PRId64 "\n", old, remainder);
+    returned = 1;
+    refused = pilfstera_set_point(PILFSTERA_SET, 3, 5, 16, &returned, &old, &remainder);
+    printf("refused %u at %zu\n", refused, returned);
     return 0;
 }

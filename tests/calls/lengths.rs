@@ -1,5 +1,5 @@
-//! Writes the lengths and limits of include/pilfstera.rs, taken in by `include!`, the refusal of an empty sheet without its words and
-//! the depth of the sample chart.
+//! Writes the lengths and limits of include/pilfstera.rs, taken in by `include!`, the refusal of an empty sheet without its words, the
+//! depth of the sample chart, and the set-points of a carry rule and of a set rule.
 
 mod pilfstera {
     include!("../../include/pilfstera.rs");
@@ -18,10 +18,17 @@ fn main() {
     println!("{} {} {} {}", chart.len(), narrow.len(), wide.len(), entries.len());
     println!("{} {}", bound_size(1), bound_size(2));
     println!("{}", entries[0]);
+    println!("{SET} {CARRY} {MOST_FACTOR} {MOST_OFFSET} {MOST_VALUE}");
     if let Err(Refusal { number, returned }) = check_sheet(&[]) {
         println!("refused {number} at {returned}");
     }
     if let Ok(depth) = depth(b"BCH\x01\x00\x01\x03\x0A\x00\x01\x0A\x00\x02\x14\x00\xFF") {
         println!("depth {depth}");
+    }
+    if let Ok(SetPoint { old, remainder }) = set_point(CARRY, 3, 5, 16) {
+        println!("old value {old}, remainder {remainder}");
+    }
+    if let Err(Refusal { number, returned }) = set_point(SET, 3, 5, 16) {
+        println!("refused {number} at {returned}");
     }
 }

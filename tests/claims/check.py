@@ -2,13 +2,14 @@
 
 `crate/specs/File.antt#name` or `crate/src/file.rt#name` is a name that the file under crates/ declares, and `crate/specs/File.antt` such a
 file; `edit crate/label` is a must-fail edit; `name/path` that begins with a folder at the root is a path. The page of claims has a row for
-each refusal 1 to 14 and names every edit.
+each refusal that can be given and names every edit.
 """
 import pathlib
 import re
 import sys
 
 CRATES = pathlib.Path("crates")
+REFUSALS = [*range(1, 15), 19]
 PATH = r"(?:crates|tests|tools|docs|examples|include|bench|\.ci)(?:/[\w.-]+)*/?"
 
 
@@ -48,7 +49,7 @@ def left_out(claims):
         edit = f"edit {file.parts[1]}/{file.stem}"
         if f"`{edit}`" not in claims:
             yield f"not on the page: {edit}"
-    for number in range(1, 15):
+    for number in REFUSALS:
         if not re.search(rf"^\| {number} \|", claims, re.M):
             yield f"no row for refusal {number}"
 

@@ -1,4 +1,4 @@
-//! The static library's six functions: the safe ones of include/pilfstera.rs, and in `raw` each as a C program calls it. The file is
+//! The static library's seven functions: the safe ones of include/pilfstera.rs, and in `raw` each as a C program calls it. The file is
 //! included, not named by its path, so that its declarations of the C functions are in reach here.
 
 include!("../../include/pilfstera.rs");
@@ -7,6 +7,7 @@ include!("../../include/pilfstera.rs");
 pub mod raw {
     use super::{
         pilfstera_check_chart, pilfstera_check_sheet, pilfstera_depth, pilfstera_make, pilfstera_run_chart, pilfstera_run_sheet,
+        pilfstera_set_point,
     };
 
     pub fn check_sheet(sheet: &[u8], returned: &mut usize) -> u8 {
@@ -61,5 +62,18 @@ pub mod raw {
         unsafe {
             pilfstera_make(sheet.as_ptr(), sheet.len(), chart.as_mut_ptr(), chart.len(), list.as_mut_ptr(), list.len(), returned)
         }
+    }
+
+    pub fn set_point(
+        kind: u8,
+        factor: i64,
+        offset: i64,
+        wanted: i64,
+        returned: &mut usize,
+        old: &mut i64,
+        remainder: &mut i64,
+    ) -> u8 {
+        // SAFETY: three live numbers, borrowed apart; the function has no `requires`.
+        unsafe { pilfstera_set_point(kind, factor, offset, wanted, returned, old, remainder) }
     }
 }

@@ -1,5 +1,6 @@
-//! Holds the static library to an independent implementation that lists every configuration, on random sheets and charts of every kind.
-//! It stops at the first difference, with the bytes in hexadecimal, and fails if some kind of answer never came.
+//! Holds the static library to an independent implementation that lists every configuration, on random sheets and charts of every kind,
+//! and its set-points to a search. It stops at the first difference, with the bytes in hexadecimal, and fails if some kind of answer never
+//! came.
 
 mod charts;
 mod depth;
@@ -10,6 +11,7 @@ mod machines;
 mod partition;
 mod random;
 mod rows;
+mod set_point;
 mod sheets;
 mod versions;
 mod wrapper;
@@ -446,6 +448,7 @@ fn kinds() -> Vec<String> {
     all.extend(numbers("run on a chart: refused ", &[3, 10, 11]));
     all.extend(versions::kinds());
     all.extend(depth::kinds());
+    all.extend(set_point::kinds());
     let hard = hard::SMALL.iter().flat_map(|(kind, _)| ["charted", "refused 9"].map(|came| format!("{kind}: {came}")));
     all.extend(hard);
     let others = [
@@ -482,6 +485,7 @@ fn main() {
     random_charts(&mut test, count as usize);
     depth::test(&mut test, count as usize);
     hard_sheets(&mut test, count as usize / 60);
+    set_point::test(&mut test, count as usize);
     for (kind, times) in &test.kinds {
         println!("{times:8} {kind}");
     }

@@ -1,11 +1,11 @@
-//! What include/pilfstera.rs has of its own: the words of a refusal, the lengths and limits, and what a run answers. Each is held to what the
-//! library answers, or to document 01.
+//! What include/pilfstera.rs has of its own: the words of a refusal, the lengths and limits, and what a run and a set-point answer. Each is
+//! held to what the library answers, or to documents 01 and 02.
 
 use crate::generate::{encode, one_counter, region};
 use crate::library::{
-    bound_size, chart_length, check_sheet, list_length, make, run_chart, run_room, run_sheet, Refusal, Run, LONGEST_CHART,
-    LONGEST_LIST, LONGEST_SEQUENCE, LONGEST_SHEET, MOST_ACTIONS, MOST_BLOCKS, MOST_COUNTERS, MOST_REGIONS, SKIPPED,
-    VERSION_1_LONGEST_LIST, VERSION_1_LONGEST_SHEET,
+    bound_size, chart_length, check_sheet, list_length, make, run_chart, run_room, run_sheet, set_point, Refusal, Run, SetPoint,
+    CARRY, LONGEST_CHART, LONGEST_LIST, LONGEST_SEQUENCE, LONGEST_SHEET, MOST_ACTIONS, MOST_BLOCKS, MOST_COUNTERS, MOST_FACTOR,
+    MOST_OFFSET, MOST_REGIONS, MOST_VALUE, SET, SKIPPED, VERSION_1_LONGEST_LIST, VERSION_1_LONGEST_SHEET,
 };
 use crate::same;
 use crate::sheets::{self, Move, Rule, Sheet};
@@ -16,22 +16,24 @@ fn refused<T>(number: u8, returned: usize) -> Result<T, Refusal> {
     Err(Refusal { number, returned })
 }
 
-/// By number: what the words must say of the reason, and of the number returned, from document 01's table.
-const WORDS: [(&str, &str); 14] = [
-    ("shorter than its header, or its mark or version", "no place"),
-    ("count is outside its limits", "first such count stands there"),
-    ("length differs from what the counts give, or is above 4,096 actions", "that is the actual length"),
-    ("value that is not allowed", "first such field stands there"),
-    ("label is repeated", "later label stands there"),
-    ("regions share a configuration", "later region stands there"),
-    ("start is in no region", "start state stands there"),
-    ("open move leads out of all regions", "move record stands there"),
-    ("more than 255 blocks", "no place"),
-    ("buffer is too short", "that is the length needed"),
-    ("lacks an action", "that is the index"),
-    ("not numbered as first named", "target or record"),
-    ("one label bar different actions", "later record stands there"),
-    ("told apart by no sequence", "later record stands there"),
+/// Each refusal's number, and what its words must say of the reason and of the number returned, from document 01's table and, for 19,
+/// document 02. No refusal has another number.
+const WORDS: [(u8, &str, &str); 15] = [
+    (1, "shorter than its header, or its mark or version", "no place"),
+    (2, "count is outside its limits", "first such count stands there"),
+    (3, "length differs from what the counts give, or is above 4,096 actions", "that is the actual length"),
+    (4, "value that is not allowed", "first such field stands there"),
+    (5, "label is repeated", "later label stands there"),
+    (6, "regions share a configuration", "later region stands there"),
+    (7, "start is in no region", "start state stands there"),
+    (8, "open move leads out of all regions", "move record stands there"),
+    (9, "more than 255 blocks", "no place"),
+    (10, "buffer is too short", "that is the length needed"),
+    (11, "lacks an action", "that is the index"),
+    (12, "not numbered as first named", "target or record"),
+    (13, "one label bar different actions", "later record stands there"),
+    (14, "told apart by no sequence", "later record stands there"),
+    (19, "no carry with allowed factor and offset, or the wanted value is beyond its bounds", "no place"),
 ];
 
 /// The words behind a refusal's number and place.
@@ -48,7 +50,7 @@ fn words(number: u8) -> String {
 
 fn refusals() {
     let mut seen = BTreeSet::new();
-    for ((wrong, told), number) in WORDS.iter().zip(1..) {
+    for (number, wrong, told) in WORDS {
         let text = words(number);
         let says = text.split_once("; ").is_some_and(|(why, what)| why.contains(wrong) && what.contains(told));
         same(&format!("{wrong}; {told} in the words: {text}"), &[number], says, true);
@@ -56,7 +58,8 @@ fn refusals() {
     }
     let unknown = words(0);
     same("words of a number that no refusal has", &[0], seen.contains(&unknown), false);
-    (15..=255).for_each(|number| same("words of an unknown number", &[number], words(number), unknown.clone()));
+    let others = (0..=255).filter(|number| WORDS.iter().all(|(known, ..)| known != number));
+    others.for_each(|number| same("words of an unknown number", &[number], words(number), unknown.clone()));
     let refusal = Refusal { number: 8, returned: 18 };
     let copied = refusal;
     same("a refusal and its copy", &[], refusal, copied);
@@ -156,8 +159,37 @@ fn runs() {
     same("a run barred at once", &last, run_sheet(&last, &[0], &mut [0; 2]), Ok(Run { entries: 2, barred: Some(0) }));
 }
 
+/// The kinds and limits of a rule, and what a set-point answers. A number at its limit is answered, on either side of 0; one beyond is not.
+fn set_points() {
+    let point = |old, remainder| Ok(SetPoint { old, remainder });
+    let asked = |[factor, offset, wanted]: [i64; 3]| set_point(CARRY, factor, offset, wanted);
+    same("a set-point", &[], asked([3, 5, 16]), point(3, 2));
+    same("a set-point of a set rule", &[], set_point(SET, 3, 5, 16), refused(19, 0));
+    same("kinds of a rule", &[], (SET, CARRY), (0, 1));
+    let numbers = [("MOST_FACTOR", MOST_FACTOR), ("MOST_OFFSET", MOST_OFFSET), ("MOST_VALUE", MOST_VALUE)];
+    for (place, (name, most)) in numbers.into_iter().enumerate() {
+        for side in [-1, 1] {
+            let with = |number: i64| {
+                let mut numbers = [1, 0, 0];
+                numbers[place] = side * number;
+                asked(numbers)
+            };
+            let old = [0, -side * most, side * most][place];
+            same(name, &[], with(most), point(old, 0));
+            same(&format!("one beyond {name}"), &[], with(most + 1), refused(19, 0));
+        }
+    }
+    let answer = SetPoint { old: -7, remainder: 2 };
+    let copied = answer;
+    same("a set-point and its copy", &[], answer, copied);
+    same("set-points of two old values", &[], answer == SetPoint { old: 7, ..answer }, false);
+    same("set-points of two remainders", &[], answer == SetPoint { remainder: 0, ..answer }, false);
+    same("a set-point for debugging", &[], format!("{answer:?}"), "SetPoint { old: -7, remainder: 2 }".into());
+}
+
 pub fn test() {
     refusals();
     [1, 2].into_iter().for_each(limits);
     runs();
+    set_points();
 }

@@ -1,5 +1,5 @@
 -- The machine's division, rounded toward zero, and its tests and numbers of 64 bits.
-use mathlib.Core.Path.{_≡_, refl, sym, subst}
+use mathlib.Core.Path.{_≡_, refl, sym, ap, subst, _∙_}
 use mathlib.Core.Bool.{Bool, true, false}
 use Prim.Native.Nat.{ℕ, zero, suc, _+_, _/_, _^_, _≤_, _<_}
 use native.Mathlib.Omega.{arith}
@@ -10,7 +10,7 @@ use lib.Signed.{ltZ, nonNeg, quotZ}
 use mir.Syntax.{w64}
 use mir.Val.{SFits, ofZ}
 use Rattle.integers.specs.Order.{up, dn, ints, eq-out, fits-small, sub-size, up-neg, dn-neg, sub-parts, ltZ-true, ltZ-false}
-use Rattle.integers.specs.Range.{Within, within-size, within-out}
+use Rattle.integers.specs.Range.{contains, near, Within, within-size, within-out}
 
 false-true : {A : Type 0} → _≡_ {A = Bool} false true → A
 false-true e = let z : _≡_ {A = ℕ} 0 1 = cc in absurd (omega arith)
@@ -34,8 +34,12 @@ bits-some (negsuc m) h n = omega (arith, h .sfits)
 pub below-zero : (n : ℕ) → negsuc 0 -ℤ negsuc n ≡ pos n
 below-zero n = eq-out (negsuc 0 -ℤ negsuc n) (pos n) (omega (arith, sub-parts (negsuc 0) (negsuc n)))
 
-pub zero-minus : (z : ℤ) → pos 0 -ℤ z ≡ negℤ z
+zero-minus : (z : ℤ) → pos 0 -ℤ z ≡ negℤ z
 zero-minus z = eq-out (pos 0 -ℤ z) (negℤ z) (omega (arith, sub-parts (pos 0) z, up-neg z, dn-neg z))
+
+-- a range from minus n to n, as the machine makes it
+pub near-by : (n : ℕ) (z : ℤ) {t : Bool} → t ≡ contains (record { low = pos 0 -ℤ pos n; high = pos n }) z → t ≡ near n z
+near-by n z h = h ∙ ap (λ (l : ℤ). contains (record { low = l; high = pos n }) z) (zero-minus (pos n))
 
 -- how a negative number's digits are found: one less than its distance from zero fits and is not negative
 pub record Natural (z : ℤ) : Type 0 where

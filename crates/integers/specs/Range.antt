@@ -1,7 +1,7 @@
 -- Ranges of whole numbers: definitions, and the laws that callers use in their place.
-use mathlib.Core.Path.{_≡_, refl}
+use mathlib.Core.Path.{_≡_, refl, subst}
 use mathlib.Core.Logic.{_↔_}
-use mathlib.Core.Bool.{Bool, true, false, cond, _&&_}
+use mathlib.Core.Bool.{Bool, true, false, cond, _&&_, not}
 use Prim.Native.Nat.{ℕ, suc, _+_, _*_, _≤_, _<_}
 use native.Mathlib.Omega.{arith}
 use native.Mathlib.Nat.{mul-le-mul-left, mul-le-mul-right}
@@ -23,6 +23,10 @@ larger a b = cond (leZ a b) b a
 -- x is in the range, both bounds included
 unfoldable pub contains : Range → ℤ → Bool
 contains r x = leZ (r .low) x && leZ x (r .high)
+
+-- z is within n of zero, on either side: the test
+abbrev pub near : ℕ → ℤ → Bool
+near n z = contains (record { low = negℤ (pos n); high = pos n }) z
 
 -- the range holds nothing
 unfoldable pub vacant : Range → Bool
@@ -96,6 +100,27 @@ contains-le r x = (to, from)
 
     from : (r .low ≤ℤ x) × (x ≤ℤ r .high) → T (leZ (r .low) x && leZ x (r .high))
     from h = yes-and (leZ (r .low) x) (leZ x (r .high)) (h .0 .le) (h .1 .le)
+
+-- nearness as a test is nearness as a proposition; and what is not near 0 is not 0
+pub near-within : (n : ℕ) (z : ℤ) → near n z ≡ true → Within n z
+near-within n z e = let (a, b) = contains-le _ z .0 (T-true (near n z) e) in record { above = a; below = b }
+
+pub within-near : (n : ℕ) (z : ℤ) → Within n z → near n z ≡ true
+within-near n z w = true-T (near n z) (contains-le _ z .1 (w .above, w .below))
+
+pub near-zero : (z : ℤ) → not (near 0 z) ≡ true → z ≡ pos 0 → ⊥
+unfolding contains
+near-zero z e d =
+    let f : not (near 0 (pos 0)) ≡ true = subst (λ (y : ℤ). not (near 0 y) ≡ true) d e in
+    let y : _≡_ {A = ℕ} 0 1 = cc in
+    omega arith
+
+pub not-near-zero : (z : ℤ) → (z ≡ pos 0 → ⊥) → not (near 0 z) ≡ true
+not-near-zero z n = go (near 0 z) refl
+  where
+    go : (t : Bool) → near 0 z ≡ t → not t ≡ true
+    go true e = let w = within-size (near-within 0 z e) in absurd (n (omega ints))
+    go false e = refl
 
 pub smaller-le : (a b x : ℤ) → (x ≤ℤ smaller a b) ↔ ((x ≤ℤ a) × (x ≤ℤ b))
 unfolding smaller

@@ -1,6 +1,6 @@
 // Ranges of whole numbers.
 ghost use mathlib.Core.Path.{_≡_};
-ghost use Rattle.integers.specs.Range.{smaller, larger, contains, vacant, meet, size, RangeWithin};
+ghost use Rattle.integers.specs.Range.{smaller, larger, contains, near, vacant, meet, size, RangeWithin};
 use crate::Range;
 
 pub fn smaller_of(a: i64, b: i64) -> i64
@@ -20,6 +20,15 @@ pub fn has(r: Range, x: i64) -> bool
     ensures { λ t. ⌜ t ≡ contains r x ⌝ }
 {
     if r.low <= x { x <= r.high } else { false }
+}
+
+// Whether z is within n of zero.
+pub fn near_zero(z: i64, n: u32) -> bool
+    ensures { λ t. ⌜ t ≡ near n z ⌝ }
+{
+    let high = n as i64;
+    let low = -high;
+    has(Range { low, high }, z)
 }
 
 // Whether the range holds nothing.

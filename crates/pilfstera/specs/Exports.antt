@@ -1,5 +1,10 @@
 -- Answers as C sees them: document 01's number of a refusal, 0 where it was done, and what is returned.
+use mathlib.Core.Path.{_≡_, refl}
+use mathlib.Core.Bool.{true, false}
 use Prim.Native.Nat.{ℕ}
+use lib.Dec.{eqb}
+use lib.IntN.{ℤ}
+use borrow.Author.Tests.{eq-eqb, ne-eqb}
 use Rattle.answers.specs.declared.Checked.{Checked}
 use Rattle.answers.specs.declared.Checked.the-variants.{Fine, Refused}
 use Rattle.answers.specs.declared.FirstBarred.{FirstBarred}
@@ -7,6 +12,9 @@ use Rattle.answers.specs.declared.FirstBarred.the-variants.{Nothing, At}
 use Rattle.answers.specs.declared.Ran.{Ran}
 use Rattle.chart.specs.declared.Settled.{Settled}
 use Rattle.charting.specs.declared.Made.{Made}
+use Rattle.model.specs.declared.Rule.{Rule}
+use Rattle.model.specs.declared.Rule.the-variants.{Set, Carry}
+use Rattle.set_point.specs.declared.SetPoint.{SetPoint}
 
 -- a check: 0 and 0 where it passed
 unfoldable pub checkNumber : Checked → ℕ
@@ -53,3 +61,32 @@ makeNumber (Made.Refused n p) = n
 unfoldable pub makeReturned : Made → ℕ
 makeReturned (Made.Done n) = n
 makeReturned (Made.Refused n p) = p
+
+-- a rule from a kind, as in a rule record, and its numbers: kind 1 is a carry, here from counter 0, and no other kind is
+unfoldable pub ruleFrom : ℕ → ℤ → ℤ → Rule
+ruleFrom kind factor offset = elim (eqb kind 1) [ true ↦ Carry 0 factor offset | false ↦ Set offset ]
+
+pub from-carry : (kind : ℕ) (factor offset : ℤ) → kind ≡ 1 → Carry 0 factor offset ≡ ruleFrom kind factor offset
+unfolding ruleFrom
+from-carry kind factor offset e = rw (eq-eqb kind 1 e, ruleFrom) refl
+
+pub from-other : (kind : ℕ) (factor offset : ℤ) → (kind ≡ 1 → ⊥) → Set offset ≡ ruleFrom kind factor offset
+unfolding ruleFrom
+from-other kind factor offset e = rw (ne-eqb kind 1 e, ruleFrom) refl
+
+-- a set-point: 0 and 0 where it was answered; its old value and remainder, or where it was refused what the parameters held before
+unfoldable pub pointNumber : SetPoint → ℕ
+pointNumber (SetPoint.Done x r) = 0
+pointNumber (SetPoint.Refused n p) = n
+
+unfoldable pub pointReturned : SetPoint → ℕ
+pointReturned (SetPoint.Done x r) = 0
+pointReturned (SetPoint.Refused n p) = p
+
+unfoldable pub pointOld : SetPoint → ℤ → ℤ
+pointOld (SetPoint.Done x r) before = x
+pointOld (SetPoint.Refused n p) before = before
+
+unfoldable pub pointRemainder : SetPoint → ℤ → ℤ
+pointRemainder (SetPoint.Done x r) before = r
+pointRemainder (SetPoint.Refused n p) before = before

@@ -12,12 +12,15 @@ ghost use Rattle.chart.specs.Check.{chartCheck};
 ghost use Rattle.chart.specs.Depth.{chartDepth};
 ghost use Rattle.chart.specs.RunChart.{chartRan, chartLeft};
 ghost use Rattle.charting.specs.Making.{makeChecks, madeBy, writtenBy};
-ghost use Rattle.pilfstera.specs.Exports.{checkNumber, checkReturned, runNumber, runReturned, runBarred, depthNumber, depthReturned, makeNumber, makeReturned, barredIndex};
+ghost use Rattle.set_point.specs.SetPoint.{setPoint};
+ghost use Rattle.pilfstera.specs.Exports.{checkNumber, checkReturned, runNumber, runReturned, runBarred, depthNumber, depthReturned, makeNumber, makeReturned, barredIndex, ruleFrom, pointNumber, pointReturned, pointOld, pointRemainder};
 use answers::Checked;
 use answers::FirstBarred;
 use answers::Ran;
 use chart::Settled;
 use charting::Made;
+use model::Rule;
+use set_point::SetPoint;
 
 // Stores what a check returns, and gives its number.
 fn told_check(checked: Checked, returned: &mut usize) -> u8
@@ -114,6 +117,48 @@ fn told_made(made: Made, returned: &mut usize) -> u8
     }
 }
 
+// A rule from its kind and numbers.
+fn rule_from(kind: u8, factor: i64, offset: i64) -> Rule
+    ensures { λ r. ⌜ r ≡ ruleFrom kind factor offset ⌝ }
+{
+    if kind == 1 {
+        Rule::Carry {
+            source: 0,
+            factor,
+            offset,
+        }
+    } else {
+        Rule::Set { offset }
+    }
+}
+
+// Stores a set-point, or what its refusal returns, and gives its number.
+fn told_point(point: SetPoint, returned: &mut usize, old: &mut i64, remainder: &mut i64) -> u8
+    ensures { λ r. ⌜ r ≡ pointNumber point ⌝ }
+    ensures { λ _. ⌜ now (returned .exit) ≡ pointReturned point ⌝ }
+    ensures { λ _. ⌜ now (old .exit) ≡ pointOld point (now (old .entry)) ⌝ }
+    ensures { λ _. ⌜ now (remainder .exit) ≡ pointRemainder point (now (remainder .entry)) ⌝ }
+{
+    match point {
+        SetPoint::Done {
+            old: x,
+            remainder: r,
+        } => {
+            *returned = 0;
+            *old = x;
+            *remainder = r;
+            0
+        }
+        SetPoint::Refused {
+            number,
+            returned: value,
+        } => {
+            *returned = value;
+            number
+        }
+    }
+}
+
 // Checks a sheet.
 #[no_mangle]
 pub extern "C" fn pilfstera_check_sheet(sheet: &[u8], returned: &mut usize) -> u8
@@ -192,4 +237,24 @@ pub extern "C" fn pilfstera_make(
 {
     let made = charting::make(sheet, chart, list);
     told_made(made, returned)
+}
+
+// The set-point of a rule, given by its kind and numbers, for a wanted value.
+#[no_mangle]
+pub extern "C" fn pilfstera_set_point(
+    kind: u8,
+    factor: i64,
+    offset: i64,
+    wanted: i64,
+    returned: &mut usize,
+    old: &mut i64,
+    remainder: &mut i64,
+) -> u8
+    ensures { λ r. ⌜ r ≡ pointNumber (setPoint (ruleFrom kind factor offset) wanted) ⌝ }
+    ensures { λ _. ⌜ now (returned .exit) ≡ pointReturned (setPoint (ruleFrom kind factor offset) wanted) ⌝ }
+    ensures { λ _. ⌜ now (old .exit) ≡ pointOld (setPoint (ruleFrom kind factor offset) wanted) (now (old .entry)) ⌝ }
+    ensures { λ _. ⌜ now (remainder .exit) ≡ pointRemainder (setPoint (ruleFrom kind factor offset) wanted) (now (remainder .entry)) ⌝ }
+{
+    let point = set_point::find(rule_from(kind, factor, offset), wanted);
+    told_point(point, returned, old, remainder)
 }

@@ -1,14 +1,13 @@
 -- What check 4 leaves: no label is 65,535, the rules of every open move are within their limits, and so are the ranges, which are in order.
-use mathlib.Core.Path.{_≡_, subst}
+use mathlib.Core.Path.{_≡_}
 use mathlib.Core.Bool.{Bool, true, false, _&&_, not}
 use mathlib.Core.List.{List}
 use Prim.Native.Nat.{ℕ, _+_, _≤_, _<_}
 use native.Mathlib.Omega.{arith}
 use lib.Dec.{eqb, ltb, leb}
 use lib.ListN.{getD, drop}
-use lib.IntN.{ℤ, pos}
 use borrow.Author.Tests.{ltb-true}
-use Rattle.integers.specs.Range.{contains, contains-le, Within, within-wider, leZ-le}
+use Rattle.integers.specs.Range.{near, Within, within-wider, leZ-le, near-within, near-zero}
 use Rattle.integers.specs.LittleEndian.{Bytes, bytes-drop}
 use Rattle.systems.specs.Laws.{both, true-is, is-true}
 use Rattle.systems.specs.Lists.{length-each}
@@ -21,17 +20,7 @@ use Rattle.sheet_bytes.specs.Layout.{wide, offsetLimit, countersOf, actionsOf, 
 use Rattle.sheet_bytes.specs.Decode.{listed, rangeAt, ruleOf, ruleAt, moveOf, moveAt}
 use Rattle.sheet_bytes.specs.Three.{boxThree}
 use Rattle.sheet_bytes.specs.Bounds.{RangesWithin, each-listed, box-within}
-use Rattle.sheet_form.specs.Form.{near, valueLimit, checkValue, checkBound, checkRule, checkZeroRule, checkMove, checkFields, checkLimits}
-
-near-within : (n : ℕ) (z : ℤ) → near n z ≡ true → Within n z
-near-within n z e = let (a, b) = contains-le _ z .0 (true-is (near n z) e) in record { above = a; below = b }
-
-near-zero : (z : ℤ) → not (near 0 z) ≡ true → z ≡ pos 0 → ⊥
-unfolding contains
-near-zero z e d =
-    let f : not (near 0 (pos 0)) ≡ true = subst (λ (y : ℤ). not (near 0 y) ≡ true) d e in
-    let y : _≡_ {A = ℕ} 0 1 = cc in
-    omega arith
+use Rattle.sheet_form.specs.Form.{valueLimit, checkValue, checkBound, checkRule, checkZeroRule, checkMove, checkFields, checkLimits}
 
 -- a rule that passed is within its limits
 pub rule-fits : (V# most : ℕ) (p : List ℕ) (at : ℕ) → most ≤ 200000000 → checkRule V# most p at ≡ Fine → RuleFits V# (ruleOf p)

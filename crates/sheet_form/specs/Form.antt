@@ -5,9 +5,8 @@ use mathlib.Core.List.{List, [], _∷_}
 use Prim.Native.Nat.{ℕ, _+_}
 use lib.Dec.{eqb, leb, ltb}
 use lib.ListN.{length, getD, drop, take}
-use lib.IntN.{ℤ, pos, negℤ}
 use lib.Signed.{leZ}
-use Rattle.integers.specs.Range.{contains}
+use Rattle.integers.specs.Range.{near}
 use Rattle.answers.specs.declared.Checked.{Checked}
 use Rattle.answers.specs.Stages.{andThen, demand, each}
 use Rattle.sheet_bytes.specs.Layout.{sheetMark, versionOf, offsetLimit, countersOf, actionsOf, regionsOf, startPlace, startValue, regionPlace, labelAt, lowPlace, highPlace, movePlace, movePart, rulePlace, kindOf, sourceOf, factorOf, offsetOf}
@@ -23,10 +22,6 @@ sameBytes (a ∷ k) (b ∷ l) = eqb a b && sameBytes k l
 -- a number from m to n
 abbrev pub from-to : ℕ → ℕ → ℕ → Bool
 from-to m n x = leb m x && leb x n
-
--- an integer within n of zero
-abbrev pub near : ℕ → ℤ → Bool
-near n z = contains (record { low = negℤ (pos n); high = pos n }) z
 
 -- 1: fewer bytes than the fixed header, or wrong mark or version: versions are 1 and 2
 unfoldable pub checkHeader : List ℕ → Checked

@@ -7,11 +7,10 @@ use native.Mathlib.Omega.{arith}
 use lib.Dec.{eqb, ltb, leb}
 use lib.ListN.{length, getD, take, drop}
 use borrow.Author.Tests.{eq-eqb, ne-eqb}
-use lib.IntN.{ℤ, pos, _-ℤ_}
+use lib.IntN.{ℤ}
 use lib.Signed.{leZ}
 use Rattle.integers.specs.declared.Range.{Range}
-use Rattle.integers.specs.Range.{contains}
-use Rattle.integers.specs.Quotient.{zero-minus}
+use Rattle.integers.specs.Range.{near}
 use Rattle.integers.specs.LittleEndian.{signedAt}
 use Rattle.systems.specs.Laws.{run-ext}
 use Rattle.answers.specs.declared.Checked.{Checked}
@@ -22,7 +21,7 @@ use Rattle.sheet_bytes.specs.Layout.{offsetLimit, countersOf, actionsOf, kindOf
 use Rattle.sheet_bytes.specs.Decode.{rangeAt}
 use Rattle.sheet_bytes.specs.Three.{Read}
 use Rattle.sheet_bytes.specs.Fields.{rest}
-use Rattle.sheet_form.specs.Form.{near, valueLimit, checkValue, checkRule, checkZeroRule, checkMove}
+use Rattle.sheet_form.specs.Form.{valueLimit, checkValue, checkRule, checkZeroRule, checkMove}
 
 -- the tests of a rule's source and factor
 unfoldable pub sourceRight : ℕ → List ℕ → Bool
@@ -96,10 +95,6 @@ move-open V# most p at e =
     rw (ne-eqb (kindOf p) 0 e, checkMove)
     (ap (λ (c : Checked). andThen (demand (leb (kindOf p) 1) 4 at) c)
     (run-ext Fine andThen (checkOne V# most p at) (λ v. checkRule V# most (drop (rulePlace v) p) (at + rulePlace v)) V# (λ v h. sym (one-open V# most p at v e))))
-
--- a range from minus n to n, as the machine makes it
-pub near-by : (n : ℕ) (z : ℤ) {t : Bool} → t ≡ contains (record { low = pos 0 -ℤ pos n; high = pos n }) z → t ≡ near n z
-near-by n z h = h ∙ ap (λ (l : ℤ). contains (record { low = l; high = pos n }) z) (zero-minus (pos n))
 
 -- nearness of a factor and of an offset that were read
 pub factor-read : (p : List ℕ) (n : ℕ) {t : Bool} {z : ℤ} → t ≡ near n z → z ≡ signedAt 1 p 2 → t ≡ near n (factorOf p)

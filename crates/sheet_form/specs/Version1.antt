@@ -8,7 +8,7 @@ use lib.Dec.{eqb, ltb}
 use lib.Signed.{leZ}
 use Rattle.integers.specs.Order.{ints}
 use Rattle.integers.specs.LittleEndian.{Bytes, Holds, signedAt, signed-held}
-use Rattle.integers.specs.Range.{contains-le}
+use Rattle.integers.specs.Range.{near, contains-le}
 use Rattle.systems.specs.Laws.{is-true, run-ext}
 use Rattle.answers.specs.declared.Checked.{Checked}
 use Rattle.answers.specs.declared.Checked.the-variants.{Fine}
@@ -16,7 +16,7 @@ use Rattle.answers.specs.Stages.{andThen, demand, each, each-all, passed, deman
 use Rattle.sheet_bytes.specs.Layout.{versionOf, wide, boundSize, offsetLimit, moveSize, regionSize, placeBy, countersOf, actionsOf, regionsOf, startPlace, startValue, regionPlace, labelAt, lowPlace, highPlace, movePlace, movePart}
 use Rattle.sheet_bytes.specs.Decode.{rangeAt}
 use Rattle.sheet_bytes.specs.Fields.{size-narrow, limit-narrow}
-use Rattle.sheet_form.specs.Form.{near, valueLimit, checkValue, checkBound, checkMove, checkFields, checkLimits}
+use Rattle.sheet_form.specs.Form.{valueLimit, checkValue, checkBound, checkMove, checkFields, checkLimits}
 
 -- region i as it was checked: the label 65,535, low above high, then the moves with offsets within 4,000,000 of zero
 unfoldable pub formerFields : List ℕ → ℕ → Checked

@@ -5,14 +5,13 @@ ghost use lib.ListN.{length};
 ghost use Rattle.answers.specs.Stages.{each};
 ghost use Rattle.sheet_bytes.specs.Layout.{countersOf, regionsOf, moveSize};
 ghost use Rattle.sheet_bytes.specs.Three.{Read};
-ghost use Rattle.sheet_form.specs.Form.{near, checkValue, checkBound, checkRule, checkZeroRule, checkMove, checkFields, checkLimits};
+ghost use Rattle.sheet_form.specs.Form.{checkValue, checkBound, checkRule, checkZeroRule, checkMove, checkFields, checkLimits};
 ghost use Rattle.sheet_form.specs.Limits.{sourceRight, factorRight, checkOne, checkMoves};
 use answers::Checked;
 use answers::demanded;
-use integers::Range;
 use integers::bytes::signed8;
 use integers::bytes::signed32;
-use integers::ranges::has;
+use integers::ranges::near_zero;
 use sheet_bytes::Shape;
 use sheet_bytes::fields::label_at;
 use sheet_bytes::fields::low_place;
@@ -22,15 +21,6 @@ use sheet_bytes::fields::range_at;
 use sheet_bytes::fields::region_place;
 use sheet_bytes::fields::start_place;
 use sheet_bytes::fields::start_value;
-
-// Whether z is within n of zero.
-fn near_zero(z: i64, n: u32) -> bool
-    ensures { λ t. ⌜ t ≡ near n z ⌝ }
-{
-    let high = n as i64;
-    let low = -high;
-    has(Range { low, high }, z)
-}
 
 // Whether a rule's source is right: 0 for a set rule, a counter's number for a carry rule.
 fn source_right(part: &[u8], counters: usize) -> bool

@@ -3,11 +3,10 @@ use native.Mathlib.Omega.{arith}
 use mir.Syntax.{w64}
 use mir.Facts.{toZ-pos}
 use mir.ValLaws.{toZ-ofZ}
-use Rattle.integers.specs.Quotient.{minus-number-fits}
-use Rattle.sheet_form.specs.Limits.{near-by}
+use Rattle.integers.specs.Quotient.{near-by, minus-number-fits}
 use borrow.Author.Needs.{needs}
-use Rattle.sheet_form.proofs.limits.near_zero.Statement.{statement}
-use Rattle.sheet_form.proofs.limits.near_zero.Tie as tie
+use Rattle.integers.proofs.ranges.near_zero.Statement.{statement}
+use Rattle.integers.proofs.ranges.near_zero.Tie as tie
 
 cast-high : tie.Need-cast-high
 cast-high c = search needs

@@ -1,0 +1,4 @@
+pub mod Euclid
+pub mod SetPoint
+pub mod Theorems
+pub mod Machine
