@@ -1,6 +1,6 @@
 //! The benchmark of charts: `pilfstera_check_chart`, `pilfstera_depth`, and a plain Rust version of the rounds that both need.
 
-use crate::measure::{plain, Benchmark, Column, Outcome};
+use crate::measure::{boxed, plain, Benchmark, Column, Outcome};
 use crate::{charts, pilfstera, rounds};
 
 /// Stands for the depth where a chart is accepted and no depth is told.
@@ -25,10 +25,10 @@ fn by_rounds(chart: &[u8], out: &mut Outcome) -> bool {
     true
 }
 
-pub fn benchmark() -> Benchmark {
+pub fn benchmark() -> Benchmark<[u8]> {
     Benchmark {
         name: "charts",
-        inputs: charts::all(),
+        inputs: boxed(charts::all()),
         versions: &[("by_rounds", by_rounds), ("pilfstera_check_chart", check_by_library), ("pilfstera_depth", depth_by_library)],
         agree: |first, other| first == other || (first.answer.is_ok() && other.answer == Ok(ACCEPTED)),
         columns: &[

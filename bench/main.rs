@@ -1,9 +1,10 @@
-//! Measures the static library against independent implementations in Rust, and prints two tables for making charts and two for checking them
-//! and for their depth. Run by `bench/run`; with the name of a benchmark it runs that one alone.
+//! Measures the static library against independent implementations in Rust, and prints two tables for making charts, two for checking them and
+//! for their depth, and two for comparing logs. Run by `bench/run`; with the name of a benchmark it runs that one alone.
 
 mod charts;
 mod checking;
 mod inputs;
+mod logs;
 mod making;
 mod measure;
 mod rounds;
@@ -31,11 +32,20 @@ mod sheets;
 
 use measure::Benchmark;
 
-fn named(name: &str) -> Benchmark {
+/// Prints a benchmark's tables, or calls one of its versions on one of its inputs.
+fn run<I: ?Sized>(benchmark: Benchmark<I>, call: Option<(usize, usize)>) {
+    match call {
+        None => benchmark.print(),
+        Some((input, version)) => benchmark.call(input, version),
+    }
+}
+
+fn named(name: &str, call: Option<(usize, usize)>) {
     match name {
-        "sheets" => making::benchmark(),
-        "charts" => checking::benchmark(),
-        _ => panic!("no benchmark {name}: sheets or charts"),
+        "sheets" => run(making::benchmark(), call),
+        "charts" => run(checking::benchmark(), call),
+        "logs" => run(logs::benchmark(), call),
+        _ => panic!("no benchmark {name}: sheets, charts or logs"),
     }
 }
 
@@ -43,9 +53,9 @@ fn main() {
     let words: Vec<String> = std::env::args().skip(1).collect();
     let number = |word: &String| word.parse().expect("a number");
     match &words[..] {
-        [] => ["sheets", "charts"].into_iter().for_each(|name| named(name).print()),
-        [name] => named(name).print(),
-        [name, input, version] => named(name).call(number(input), number(version)),
-        _ => panic!("usage: bench [sheets | charts]"),
+        [] => ["sheets", "charts", "logs"].into_iter().for_each(|name| named(name, None)),
+        [name] => named(name, None),
+        [name, input, version] => named(name, Some((number(input), number(version)))),
+        _ => panic!("usage: bench [sheets | charts | logs]"),
     }
 }

@@ -1,6 +1,6 @@
 //! The benchmark of making charts: `pilfstera_make`, a straightforward Rust version of its algorithm, and listing every configuration.
 
-use crate::measure::{plain, Benchmark, Column, Outcome};
+use crate::measure::{boxed, plain, Benchmark, Column, Outcome};
 use crate::{inputs, pilfstera, sheets, straightforward};
 
 /// Listing is left out above so many configurations.
@@ -46,10 +46,10 @@ fn by_listing(bytes: &[u8], out: &mut Outcome) -> bool {
     true
 }
 
-pub fn benchmark() -> Benchmark {
+pub fn benchmark() -> Benchmark<[u8]> {
     Benchmark {
         name: "sheets",
-        inputs: inputs::all(),
+        inputs: boxed(inputs::all()),
         versions: &[
             ("pilfstera_make", by_library),
             ("by_passes", by_passes),

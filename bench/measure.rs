@@ -31,7 +31,12 @@ pub fn plain(refusal: pilfstera::Refusal) -> Refusal {
 }
 
 /// A version takes an input; it gives false where it would take too long.
-pub type Version = fn(&[u8], &mut Outcome) -> bool;
+pub type Version<I> = fn(&I, &mut Outcome) -> bool;
+
+/// Inputs that are bytes.
+pub fn boxed(inputs: Vec<(&'static str, Vec<u8>)>) -> Vec<(&'static str, Box<[u8]>)> {
+    inputs.into_iter().map(|(name, bytes)| (name, bytes.into_boxed_slice())).collect()
+}
 
 /// What stands in a column: the number of a version, or the ratio of one to another.
 pub enum Column {
@@ -39,13 +44,13 @@ pub enum Column {
     Ratio(usize, usize),
 }
 
-pub struct Benchmark {
+pub struct Benchmark<I: ?Sized + 'static> {
     /// The word for it on the command line.
     pub name: &'static str,
     /// The inputs, each with its name.
-    pub inputs: Vec<(&'static str, Vec<u8>)>,
+    pub inputs: Vec<(&'static str, Box<I>)>,
     /// The versions, each with the name of the function within which its instructions are counted.
-    pub versions: &'static [(&'static str, Version)],
+    pub versions: &'static [(&'static str, Version<I>)],
     /// Whether another version gave what the first gave.
     pub agree: fn(&Outcome, &Outcome) -> bool,
     pub columns: &'static [(&'static str, Column)],
@@ -71,7 +76,7 @@ fn now() -> Duration {
 }
 
 /// The time of so many calls; nothing where they were left out.
-fn calls(version: Version, input: &[u8], out: &mut Outcome, count: u32) -> Option<Duration> {
+fn calls<I: ?Sized>(version: Version<I>, input: &I, out: &mut Outcome, count: u32) -> Option<Duration> {
     let begin = now();
     for _ in 0..count {
         if !version(std::hint::black_box(input), std::hint::black_box(out)) {
@@ -83,7 +88,7 @@ fn calls(version: Version, input: &[u8], out: &mut Outcome, count: u32) -> Optio
 
 /// The least time of a call, over a second of batches of at least a millisecond. A call that takes longer than REPEATED is not repeated. A
 /// batch of less than half the middle time is left out: the clock of a virtual processor may stand still.
-fn time(version: Version, input: &[u8], out: &mut Outcome, first: Duration) -> Option<Duration> {
+fn time<I: ?Sized>(version: Version<I>, input: &I, out: &mut Outcome, first: Duration) -> Option<Duration> {
     if first > REPEATED {
         return Some(first);
     }
@@ -123,7 +128,7 @@ fn shown_ratio(of: f64, to: f64) -> String {
     }
 }
 
-impl Benchmark {
+impl<I: ?Sized> Benchmark<I> {
     /// Calls a version once, for its instructions to be counted.
     pub fn call(&self, input: usize, version: usize) {
         self.versions[version].1(&self.inputs[input].1, &mut cleared());
@@ -144,7 +149,7 @@ impl Benchmark {
     }
 
     /// Each version's least time, once all of them gave the same result.
-    fn times(&self, name: &str, input: &[u8]) -> Vec<Option<Duration>> {
+    fn times(&self, name: &str, input: &I) -> Vec<Option<Duration>> {
         let mut outcomes: Vec<Outcome> = self.versions.iter().map(|_| cleared()).collect();
         let mut firsts = Vec::new();
         for (k, (function, version)) in self.versions.iter().enumerate() {
@@ -168,8 +173,8 @@ impl Benchmark {
 
     /// A line of each table: times, and instructions.
     fn measure(&self, input: usize) -> (String, String) {
-        let (name, bytes) = &self.inputs[input];
-        let times = self.times(name, bytes);
+        let (name, given) = &self.inputs[input];
+        let times = self.times(name, given);
         let count = |k: usize| if times[k]? < COUNTED { self.instructions(input, k) } else { None };
         let counts: Vec<Option<f64>> = (0..times.len()).map(|k| count(k).map(|n| n as f64)).collect();
         let seconds: Vec<Option<f64>> = times.iter().map(|t| t.map(|t| t.as_secs_f64())).collect();

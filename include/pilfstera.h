@@ -1,8 +1,8 @@
 /* Pilfstera for C and C++: link libpilfstera.a, which `rt staticlib pilfstera` writes into target/staticlib.
 
    Each function returns 0 where it was done, else the number of the refusal, 1 to 14 or 19, and stores a number through `returned`:
-   what its comment says where it was done, else what the table says. A refusal alters no buffer. Nothing is asked of what the buffers
-   hold.
+   what its comment says where it was done, else what the table says. A refusal alters no buffer. The last two, which compare logs, are
+   the exception: they refuse nothing and have no `returned`. Nothing is asked of what the buffers hold.
 
    A slice is a pointer and a length, in bytes or in entries of 16 bits. A pointer beside a length of 0 is not read, but is not null
    either. No two of the buffers and numbers that are written may overlap, and none of them a buffer that is read. The functions
@@ -75,6 +75,9 @@ enum { PILFSTERA_SET = 0, PILFSTERA_CARRY = 1 };
 /* Most that a carry rule's factor, its offset and a wanted value are without their signs, as in version 2 of the sheet. No factor is 0. */
 enum { PILFSTERA_MOST_FACTOR = 100, PILFSTERA_MOST_OFFSET = 200000000, PILFSTERA_MOST_VALUE = 1000000 };
 
+/* A log of labels, or a part of one: so many entries, from a pointer on. */
+struct pilfstera_log { const uint16_t *entries; size_t length; };
+
 #ifdef __cplusplus
 extern "C" {
 #endif
@@ -123,6 +126,24 @@ uint8_t pilfstera_run_chart(const uint8_t *chart, size_t length, const uint8_t *
    number of steps. */
 uint8_t pilfstera_set_point(uint8_t kind, int64_t factor, int64_t offset, int64_t wanted, size_t *returned, int64_t *old,
                             int64_t *remainder);
+
+/* Two logs of the same run, laid beside each other: returns the first index at which they differ, or the length of the shorter log where
+   they differ at no index that both have. So they differ just if the index is below both lengths. 10 10 20 and 10 10 30 20 give 2;
+   10 10 and 10 10 30 give 2 as well, the length of the first. Logs of any lengths, 0 too, and any entries, PILFSTERA_SKIPPED too, are
+   answered. The logs are only read, so they may overlap or be one and the same. It takes one comparison for each index up to the first
+   difference; what lies behind is not read and has no influence. */
+size_t pilfstera_first_difference(const uint16_t *first, size_t first_length, const uint16_t *second, size_t second_length);
+
+/* What is left of the longer of two logs where the other is its beginning: stores through `rest` the part of the caller's own log from the
+   length of the shorter on. Equal logs, and logs that differ, give the empty rest of the first, the one at its end: first + first_length
+   and the length 0. So 10 10 and 10 10 30 20 give second + 2 and the length 2; 10 10 20 and 10 10 30 20 give first + 3 and 0. Whether
+   logs differ or are equal is told by pilfstera_first_difference. All that is said there of what is answered, read and compared holds here
+   as well. Nothing is copied: what is stored is valid for as long as the caller's log is.
+
+   Before the call `*rest` must hold a log too, whose pointer is not null, such as first and 0; it is only written, so that this log is
+   replaced and its entries are neither read nor altered. `*rest` must not lie inside either log. */
+void pilfstera_rest(const uint16_t *first, size_t first_length, const uint16_t *second, size_t second_length,
+                    struct pilfstera_log *rest);
 
 #ifdef __cplusplus
 }

@@ -27,6 +27,7 @@ pub use self::library::*;
 mod library {
     use std::error::Error;
     use std::fmt;
+    use std::slice;
 
     /// Bytes of the longest sheet of either version, that of 32 regions, 8 actions and 3 counters. A reader of sheets may stop one byte past
     /// it: whatever is longer is refused.
@@ -166,6 +167,13 @@ mod library {
         pub remainder: i64,
     }
 
+    // A log as the library stores it: so many entries, from a pointer on.
+    #[repr(C)]
+    pub(super) struct Log {
+        pub(super) entries: *const u16,
+        pub(super) length: usize,
+    }
+
     // The library's exports as include/pilfstera.h has them: a slice is a pointer and a length.
     unsafe extern "C" {
         pub(super) fn pilfstera_check_sheet(sheet: *const u8, length: usize, returned: *mut usize) -> u8;
@@ -209,6 +217,19 @@ mod library {
             old: *mut i64,
             remainder: *mut i64,
         ) -> u8;
+        pub(super) fn pilfstera_first_difference(
+            first: *const u16,
+            first_length: usize,
+            second: *const u16,
+            second_length: usize,
+        ) -> usize;
+        pub(super) fn pilfstera_rest(
+            first: *const u16,
+            first_length: usize,
+            second: *const u16,
+            second_length: usize,
+            rest: *mut Log,
+        );
     }
 
     type BytesFunction = unsafe extern "C" fn(*const u8, usize, *mut usize) -> u8;
@@ -320,5 +341,29 @@ mod library {
         // SAFETY: four numbers of which nothing is asked, and three of our own to write.
         let number = unsafe { pilfstera_set_point(kind, factor, offset, wanted, &mut returned, &mut old, &mut remainder) };
         answer(number, returned, SetPoint { old, remainder })
+    }
+
+    /// Two logs of the same run, laid beside each other: the first index at which they differ, or the length of the shorter log where they
+    /// differ at no index that both have. So they differ just if the index is below both lengths. `[10, 10, 20]` and `[10, 10, 30, 20]`
+    /// give 2; `[10, 10]` and `[10, 10, 30]` give 2 as well, the length of the first. It refuses nothing: logs of any lengths, 0 too, and
+    /// any entries, [`SKIPPED`] too, are answered. It takes one comparison for each index up to the first difference; what lies behind is
+    /// not read and has no influence.
+    pub fn first_difference(first: &[u16], second: &[u16]) -> usize {
+        // SAFETY: two slices by pointer and length, which are only read; nothing is asked of what they hold.
+        unsafe { pilfstera_first_difference(first.as_ptr(), first.len(), second.as_ptr(), second.len()) }
+    }
+
+    /// What is left of the longer of two logs where the other is its beginning, as the part of the caller's own log from the length of the
+    /// shorter on. Equal logs, and logs that differ, give the empty rest of the first, the one at its end. So `[10, 10]` and
+    /// `[10, 10, 30, 20]` give the last two entries of the second. Whether logs differ or are equal is told by [`first_difference`]. It
+    /// refuses nothing, and compares and reads no more than [`first_difference`] does.
+    pub fn rest<'a>(first: &'a [u16], second: &'a [u16]) -> &'a [u16] {
+        let mut rest = Log { entries: first.as_ptr(), length: 0 };
+        // SAFETY: two slices by pointer and length, which are only read, and a log of our own to write, which holds an empty one before;
+        // nothing is asked of what the slices hold.
+        unsafe { pilfstera_rest(first.as_ptr(), first.len(), second.as_ptr(), second.len(), &mut rest) };
+        // SAFETY: by the library's contract what is stored is a tail of one of the two slices, from within it or from its end on, and both
+        // live for 'a.
+        unsafe { slice::from_raw_parts(rest.entries, rest.length) }
     }
 }

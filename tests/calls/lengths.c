@@ -1,5 +1,5 @@
-/* Writes the lengths and limits of the header, as C and as C++, the refusal of an empty sheet, the depth of the sample chart, and the
-   set-points of a carry rule and of a set rule. */
+/* Writes the lengths and limits of the header, as C and as C++, the refusal of an empty sheet, the depth of the sample chart, the
+   set-points of a carry rule and of a set rule, and what is told of two logs. */
 #include "pilfstera.h"
 #include <inttypes.h>
 #include <stdio.h>
@@ -12,6 +12,8 @@ int main(void) {
     uint8_t sheet[1] = {0}, sample[] = {'B', 'C', 'H', 1, 0, 1, 3, 10, 0, 1, 10, 0, 2, 20, 0, 255};
     size_t returned = 1;
     int64_t old = 0, remainder = 0;
+    const uint16_t log[] = {10, 10, 20, PILFSTERA_SKIPPED}, other[] = {10, 10, 30};
+    struct pilfstera_log rest = {log, 0};
     printf("%d %d %d %d\n", PILFSTERA_SHEET, PILFSTERA_CHART, PILFSTERA_LIST, PILFSTERA_ACTIONS);
     printf("%d %d\n", PILFSTERA_VERSION_1_SHEET, PILFSTERA_VERSION_1_LIST);
     printf("%d %d %d %d\n", PILFSTERA_MOST_BLOCKS, PILFSTERA_MOST_ACTIONS, PILFSTERA_MOST_COUNTERS, PILFSTERA_MOST_REGIONS);
@@ -28,5 +30,8 @@ int main(void) {
     returned = 1;
     refused = pilfstera_set_point(PILFSTERA_SET, 3, 5, 16, &returned, &old, &remainder);
     printf("refused %u at %zu\n", refused, returned);
+    printf("first difference %zu\n", pilfstera_first_difference(log, 4, other, 3));
+    pilfstera_rest(other, 2, log, 4, &rest);
+    printf("rest of %zu: %d %d\n", rest.length, rest.entries[0], rest.entries[1]);
     return 0;
 }

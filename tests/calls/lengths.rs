@@ -1,5 +1,5 @@
 //! Writes the lengths and limits of include/pilfstera.rs, taken in by `include!`, the refusal of an empty sheet without its words, the
-//! depth of the sample chart, and the set-points of a carry rule and of a set rule.
+//! depth of the sample chart, the set-points of a carry rule and of a set rule, and what is told of two logs.
 
 mod pilfstera {
     include!("../../include/pilfstera.rs");
@@ -31,4 +31,8 @@ fn main() {
     if let Err(Refusal { number, returned }) = set_point(SET, 3, 5, 16) {
         println!("refused {number} at {returned}");
     }
+    let (log, other) = ([10, 10, 20, SKIPPED], [10, 10, 30]);
+    println!("first difference {}", first_difference(&log, &other));
+    let left = rest(&other[..2], &log);
+    println!("rest of {}: {} {}", left.len(), left[0], left[1]);
 }

@@ -1,13 +1,13 @@
-//! The static library's seven functions: the safe ones of include/pilfstera.rs, and in `raw` each as a C program calls it. The file is
+//! The static library's nine functions: the safe ones of include/pilfstera.rs, and in `raw` each as a C program calls it. The file is
 //! included, not named by its path, so that its declarations of the C functions are in reach here.
 
 include!("../../include/pilfstera.rs");
 
-/// For calls with noise in the numbers that are stored through pointers: the safe functions have numbers of their own there.
+/// For calls with noise in what is stored through pointers: the safe functions have numbers and a log of their own there.
 pub mod raw {
     use super::{
-        pilfstera_check_chart, pilfstera_check_sheet, pilfstera_depth, pilfstera_make, pilfstera_run_chart, pilfstera_run_sheet,
-        pilfstera_set_point,
+        pilfstera_check_chart, pilfstera_check_sheet, pilfstera_depth, pilfstera_first_difference, pilfstera_make,
+        pilfstera_rest, pilfstera_run_chart, pilfstera_run_sheet, pilfstera_set_point, Log,
     };
 
     pub fn check_sheet(sheet: &[u8], returned: &mut usize) -> u8 {
@@ -75,5 +75,18 @@ pub mod raw {
     ) -> u8 {
         // SAFETY: three live numbers, borrowed apart; the function has no `requires`.
         unsafe { pilfstera_set_point(kind, factor, offset, wanted, returned, old, remainder) }
+    }
+
+    pub fn first_difference(first: &[u16], second: &[u16]) -> usize {
+        // SAFETY: the pointers and lengths of two slices; the function has no `requires`.
+        unsafe { pilfstera_first_difference(first.as_ptr(), first.len(), second.as_ptr(), second.len()) }
+    }
+
+    /// The rest is stored in the middle of three logs, each of which is `before`: pointers and lengths of the three.
+    pub fn rest(first: &[u16], second: &[u16], before: &[u16]) -> [(*const u16, usize); 3] {
+        let mut logs = [(); 3].map(|()| Log { entries: before.as_ptr(), length: before.len() });
+        // SAFETY: as above, and a live log.
+        unsafe { pilfstera_rest(first.as_ptr(), first.len(), second.as_ptr(), second.len(), logs.as_mut_ptr().add(1)) };
+        logs.map(|log| (log.entries, log.length))
     }
 }

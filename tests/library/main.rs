@@ -1,12 +1,13 @@
 //! Holds the static library to an independent implementation that lists every configuration, on random sheets and charts of every kind,
-//! and its set-points to a search. It stops at the first difference, with the bytes in hexadecimal, and fails if some kind of answer never
-//! came.
+//! its set-points to a search, and its answers about two logs to a comparison in full. It stops at the first difference, with the bytes in
+//! hexadecimal, and fails if some kind of answer never came.
 
 mod charts;
 mod depth;
 mod generate;
 mod hard;
 mod library;
+mod logs;
 mod machines;
 mod partition;
 mod random;
@@ -449,6 +450,7 @@ fn kinds() -> Vec<String> {
     all.extend(versions::kinds());
     all.extend(depth::kinds());
     all.extend(set_point::kinds());
+    all.extend(logs::kinds());
     let hard = hard::SMALL.iter().flat_map(|(kind, _)| ["charted", "refused 9"].map(|came| format!("{kind}: {came}")));
     all.extend(hard);
     let others = [
@@ -486,6 +488,7 @@ fn main() {
     depth::test(&mut test, count as usize);
     hard_sheets(&mut test, count as usize / 60);
     set_point::test(&mut test, count as usize);
+    logs::test(&mut test, count as usize);
     for (kind, times) in &test.kinds {
         println!("{times:8} {kind}");
     }

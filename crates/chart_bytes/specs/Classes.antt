@@ -1,6 +1,6 @@
 -- Tables of classes: what the rounds of refinement in code hold.
 use mathlib.Core.Path.{_≡_, refl, sym, ap, subst, _∙_}
-use mathlib.Core.Logic.{_⊎_, inl, inr, ⊎-elim}
+use mathlib.Core.Logic.{_⊎_, inl, inr}
 use mathlib.Core.Bool.{Bool, true, false, _&&_}
 use mathlib.Core.List.{List}
 use Prim.Native.Nat.{ℕ, zero, suc, _+_, _≤_, _<_}
@@ -12,7 +12,7 @@ use lib.ListN.{length, getD, set}
 use lib.Seq.{getD-set-same, getD-set-other}
 use borrow.Author.Tests.{eq-eqb, ne-eqb}
 use Rattle.systems.specs.Search.{run, all, least}
-use Rattle.systems.specs.Laws.{true-is, not-true, least-is, least-le, least-ext, run-ext, below-suc}
+use Rattle.systems.specs.Laws.{true-is, not-true, least-is, least-le, least-ext, run-ext, below-next}
 use Rattle.answers.specs.Loops.{and-both, and-first, and-second, all-stop, all-ended}
 use Rattle.model.specs.Chart.{actionsOf, blocksOf, labelOf, targetOf, sameTarget, refines, roundClass}
 use Rattle.model.specs.ChartDepth.{depthOf}
@@ -44,10 +44,6 @@ pub record Refined (c f g : List ℕ) : Type 0 where
 -- the least number that passes, found by a loop
 pub found-least : (p : ℕ → Bool) (n j : ℕ) → j < n → ((k : ℕ) → k < j → p k ≡ false) → p j ≡ true → j ≡ least p n
 found-least p n j h e t = sym (least-is p n j (omega arith) (λ l. true-is (p j) t) (λ k l q. not-true (p k) (e k l) q))
-
--- what holds of all numbers below i, and of i
-pub below-next : {P : ℕ → Type 0} (i : ℕ) → ((k : ℕ) → k < i → P k) → P i → (k : ℕ) → k < i + 1 → P k
-below-next {P} i f p k h = ⊎-elim (λ e. subst P (sym e) p) (λ l. f k l) (below-suc (rw add-one at h))
 
 -- a store in a table: what it holds at i, and elsewhere
 pub store-next : (f : List ℕ) (i v : ℕ) (q : ℕ → ℕ) → i < length f → v ≡ q i → ((k : ℕ) → k < i → getD f k 0 ≡ q k)

@@ -1,5 +1,6 @@
-// The library that C and Rust programs link. An answer enum cannot cross to C: each function returns 0 where it was done, else the
-// refusal's number, and stores through `returned` what document 01's table says is returned. A slice passes as a pointer, then a length.
+// The library that C and Rust programs link. An answer enum cannot cross to C: each function that may refuse returns 0 where it was done, else
+// the refusal's number, and stores through `returned` what document 01's table says is returned. A slice passes as a pointer, then a length; one
+// that is handed back is stored as such a pair.
 // Public: no function asks anything of its caller, and each contract gives the answer as a definition does.
 ghost use mathlib.Core.Path.{_≡_};
 ghost use lib.ListN.{length};
@@ -13,6 +14,7 @@ ghost use Rattle.chart.specs.Depth.{chartDepth};
 ghost use Rattle.chart.specs.RunChart.{chartRan, chartLeft};
 ghost use Rattle.charting.specs.Making.{makeChecks, madeBy, writtenBy};
 ghost use Rattle.set_point.specs.SetPoint.{setPoint};
+ghost use Rattle.logs.specs.Compare.{firstDifference, restOf, lent, partOf};
 ghost use Rattle.pilfstera.specs.Exports.{checkNumber, checkReturned, runNumber, runReturned, runBarred, depthNumber, depthReturned, makeNumber, makeReturned, barredIndex, ruleFrom, pointNumber, pointReturned, pointOld, pointRemainder};
 use answers::Checked;
 use answers::FirstBarred;
@@ -257,4 +259,20 @@ pub extern "C" fn pilfstera_set_point(
 {
     let point = set_point::find(rule_from(kind, factor, offset), wanted);
     told_point(point, returned, old, remainder)
+}
+
+// The first index where two logs differ, or the length of the shorter.
+#[no_mangle]
+pub extern "C" fn pilfstera_first_difference(first: &[u16], second: &[u16]) -> usize
+    ensures { λ r. ⌜ r ≡ firstDifference (now (first .entry)) (now (second .entry)) ⌝ }
+{
+    logs::first_difference(first, second)
+}
+
+// The rest of one of two logs, as a part of that log.
+#[no_mangle]
+pub extern "C" fn pilfstera_rest<'a>(first: &'a [u16], second: &'a [u16], rest: &mut &'a [u16])
+    ensures { λ _. ⌜ lent (now (rest .exit)) ≡ partOf (restOf (now (first .entry)) (now (second .entry))) (first .entry) (second .entry) ⌝ }
+{
+    *rest = logs::rest(first, second);
 }

@@ -3,6 +3,7 @@ use Prim.Native.Nat.{ℕ, zero, suc, _+_, _≤_, _<_}
 use native.Mathlib.Nat.{not-suc-le-zero, le-of-suc-le-suc, eq-or-lt-of-le}
 use native.Mathlib.Decide.{decLe}
 use native.Mathlib.Omega.{arith}
+use native.Mathlib.Numerals.{add-one}
 use mathlib.Core.Path.{_≡_, refl, sym, ap, subst, _∙_}
 use mathlib.Core.Logic.{_↔_, _⊎_, inl, inr, ⊎-elim, Equivalence}
 use mathlib.Core.Bool.{Bool, true, false, not, _||_, _&&_}
@@ -62,6 +63,10 @@ not-tells false = (λ t u. u, λ f. tt)
 -- a number below n + 1 is n or below n
 pub below-suc : {i n : ℕ} → i < suc n → (i ≡ n) ⊎ (i < n)
 below-suc h = eq-or-lt-of-le (le-of-suc-le-suc h)
+
+-- what holds of all numbers below i, and of i
+pub below-next : {P : ℕ → Type 0} (i : ℕ) → ((k : ℕ) → k < i → P k) → P i → (k : ℕ) → k < i + 1 → P k
+below-next {P} i f p k h = ⊎-elim (λ e. subst P (sym e) p) (λ l. f k l) (below-suc (rw add-one at h))
 
 any-out : (p : ℕ → Bool) (n : ℕ) → T (any p n) → (i : ℕ) × (i < n) × T (p i)
 unfolding run

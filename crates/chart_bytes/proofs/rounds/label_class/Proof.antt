@@ -3,7 +3,8 @@ use mathlib.Core.Path.{_≡_, refl}
 use mathlib.Core.Bool.{false}
 use Prim.Native.Nat.{ℕ, _-_, _≤_, _<_}
 use native.Mathlib.Omega.{arith}
-use Rattle.chart_bytes.specs.Classes.{sameLabel, label-found, label-other, below-next}
+use Rattle.systems.specs.Laws.{below-next}
+use Rattle.chart_bytes.specs.Classes.{sameLabel, label-found, label-other}
 use Rattle.chart_bytes.proofs.rounds.label_class.Statement.{statement}
 use Rattle.chart_bytes.proofs.rounds.label_class.Tie as tie
 

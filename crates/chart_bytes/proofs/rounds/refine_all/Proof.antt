@@ -3,8 +3,9 @@ use mathlib.Core.Path.{_≡_, sym, _∙_}
 use Prim.Native.Nat.{ℕ, _-_, _≤_, _<_}
 use native.Mathlib.Omega.{arith}
 use lib.ListN.{length}
+use Rattle.systems.specs.Laws.{below-next}
 use Rattle.model.specs.Rounds.{Parted}
-use Rattle.chart_bytes.specs.Classes.{Holds, below-next, holds-ordered, holds-more, holds-all, holds-stopped, differ-parted, depth-stopped, depth-all}
+use Rattle.chart_bytes.specs.Classes.{Holds, holds-ordered, holds-more, holds-all, holds-stopped, differ-parted, depth-stopped, depth-all}
 use Rattle.chart_bytes.proofs.rounds.refine_all.Statement.{statement}
 use Rattle.chart_bytes.proofs.rounds.refine_all.Tie as tie
 

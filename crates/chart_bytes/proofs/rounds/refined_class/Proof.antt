@@ -3,8 +3,9 @@ use mathlib.Core.Path.{_≡_, sym, _∙_}
 use mathlib.Core.Bool.{false}
 use Prim.Native.Nat.{ℕ, _-_, _≤_, _<_}
 use native.Mathlib.Omega.{arith}
+use Rattle.systems.specs.Laws.{below-next}
 use Rattle.model.specs.Chart.{refines}
-use Rattle.chart_bytes.specs.Classes.{entry, class-found, refines-refl, below-next, class-below}
+use Rattle.chart_bytes.specs.Classes.{entry, class-found, refines-refl, class-below}
 use Rattle.chart_bytes.proofs.rounds.refined_class.Statement.{statement}
 use Rattle.chart_bytes.proofs.rounds.refined_class.Tie as tie
 

@@ -3,7 +3,7 @@ use mathlib.Core.Path.{_≡_}
 use Prim.Native.Nat.{ℕ, _-_, _≤_, _<_}
 use native.Mathlib.Omega.{arith}
 use lib.ListN.{getD}
-use Rattle.chart_bytes.specs.Classes.{below-next}
+use Rattle.systems.specs.Laws.{below-next}
 use Rattle.chart_bytes.proofs.rounds.same_classes.Statement.{statement}
 use Rattle.chart_bytes.proofs.rounds.same_classes.Tie as tie
 

@@ -1,0 +1,4 @@
+pub mod Compare
+pub mod Listed
+pub mod Theorems
+pub mod Machine
