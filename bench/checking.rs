@@ -1,6 +1,6 @@
 //! The benchmark of charts: `pilfstera_check_chart`, `pilfstera_depth`, and a plain Rust version of the rounds that both need.
 
-use crate::measure::{boxed, plain, Benchmark, Column, Outcome};
+use crate::measure::{boxed, plain, Benchmark, Column, Outcome, Told};
 use crate::{charts, pilfstera, rounds};
 
 /// Stands for the depth where a chart is accepted and no depth is told.
@@ -31,6 +31,7 @@ pub fn benchmark() -> Benchmark<[u8]> {
         inputs: boxed(charts::all()),
         versions: &[("by_rounds", by_rounds), ("pilfstera_check_chart", check_by_library), ("pilfstera_depth", depth_by_library)],
         agree: |first, other| first == other || (first.answer.is_ok() && other.answer == Ok(ACCEPTED)),
+        told: Told::Least,
         columns: &[
             ("check", Column::Of(1)),
             ("depth", Column::Of(2)),

@@ -1,6 +1,6 @@
 //! The benchmark of logs: `pilfstera_first_difference`, plain Rust that stops at the first difference, and comparing both in full.
 
-use crate::measure::{Benchmark, Column, Outcome};
+use crate::measure::{Benchmark, Column, Outcome, Told};
 use crate::pilfstera;
 
 /// Two logs laid beside each other.
@@ -65,6 +65,7 @@ pub fn benchmark() -> Benchmark<Logs> {
         ],
         versions: &[("in_full", in_full), ("by_stopping", by_stopping), ("pilfstera_first_difference", by_library)],
         agree: |first, other| first == other,
+        told: Told::Least,
         columns: &[
             ("Library", Column::Of(2)),
             ("stopping", Column::Of(1)),

@@ -1,8 +1,10 @@
 //! Measures the static library against independent implementations in Rust, and prints two tables for making charts, two for checking them and
-//! for their depth, and two for comparing logs. Run by `bench/run`; with the name of a benchmark it runs that one alone.
+//! for their depth, two for counters that go round, and two for comparing logs. Run by `bench/run`; with the name of a benchmark it runs that
+//! one alone.
 
 mod charts;
 mod checking;
+mod go_round;
 mod inputs;
 mod logs;
 mod making;
@@ -44,8 +46,9 @@ fn named(name: &str, call: Option<(usize, usize)>) {
     match name {
         "sheets" => run(making::benchmark(), call),
         "charts" => run(checking::benchmark(), call),
+        "go_round" => run(go_round::benchmark(), call),
         "logs" => run(logs::benchmark(), call),
-        _ => panic!("no benchmark {name}: sheets, charts or logs"),
+        _ => panic!("no benchmark {name}: sheets, charts, go_round or logs"),
     }
 }
 
@@ -53,9 +56,9 @@ fn main() {
     let words: Vec<String> = std::env::args().skip(1).collect();
     let number = |word: &String| word.parse().expect("a number");
     match &words[..] {
-        [] => ["sheets", "charts", "logs"].into_iter().for_each(|name| named(name, None)),
+        [] => ["sheets", "charts", "go_round", "logs"].into_iter().for_each(|name| named(name, None)),
         [name] => named(name, None),
         [name, input, version] => named(name, Some((number(input), number(version)))),
-        _ => panic!("usage: bench [sheets | charts | logs]"),
+        _ => panic!("usage: bench [sheets | charts | go_round | logs]"),
     }
 }

@@ -1,6 +1,6 @@
 //! The benchmark of making charts: `pilfstera_make`, a straightforward Rust version of its algorithm, and listing every configuration.
 
-use crate::measure::{boxed, plain, Benchmark, Column, Outcome};
+use crate::measure::{boxed, plain, Benchmark, Column, Outcome, Told};
 use crate::{inputs, pilfstera, sheets, straightforward};
 
 /// Listing is left out above so many configurations.
@@ -57,6 +57,7 @@ pub fn benchmark() -> Benchmark<[u8]> {
             ("by_listing", by_listing),
         ],
         agree: |first, other| first == other,
+        told: Told::Least,
         columns: &[
             ("Library", Column::Of(0)),
             ("(a)", Column::Of(1)),

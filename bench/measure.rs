@@ -1,7 +1,7 @@
 //! Measures versions of a function on inputs and prints two tables, of the processor time and of the instructions of a call. What the versions gave
 //! is compared before anything is timed.
 
-use crate::pilfstera::{self, LONGEST_CHART, LONGEST_LIST};
+use crate::pilfstera::{self, LONGEST_CHART, LONGEST_LIST, MOST_INCREMENTS};
 use crate::sheets::Refusal;
 use std::process::Command;
 use std::time::{Duration, Instant};
@@ -18,11 +18,12 @@ pub struct Outcome {
     pub answer: Result<usize, Refusal>,
     pub chart: Vec<u8>,
     pub list: Vec<u8>,
+    pub counts: [u64; MOST_INCREMENTS],
 }
 
-/// Room for any chart and box list. They are cleared once, and not between the calls that are timed.
+/// Room for any chart and box list, and for counts. They are cleared once, and not between the calls that are timed.
 fn cleared() -> Outcome {
-    Outcome { answer: Ok(0), chart: vec![0; LONGEST_CHART], list: vec![0; LONGEST_LIST] }
+    Outcome { answer: Ok(0), chart: vec![0; LONGEST_CHART], list: vec![0; LONGEST_LIST], counts: [0; MOST_INCREMENTS] }
 }
 
 /// A refusal of the library, to be compared with one of another version.
@@ -44,6 +45,14 @@ pub enum Column {
     Ratio(usize, usize),
 }
 
+/// Which of the times of a call stands in the table. The least is that of the call alone; the middle one is for calls so short that the least
+/// goes by chance.
+#[derive(Clone, Copy)]
+pub enum Told {
+    Least,
+    Middle,
+}
+
 pub struct Benchmark<I: ?Sized + 'static> {
     /// The word for it on the command line.
     pub name: &'static str,
@@ -53,6 +62,7 @@ pub struct Benchmark<I: ?Sized + 'static> {
     pub versions: &'static [(&'static str, Version<I>)],
     /// Whether another version gave what the first gave.
     pub agree: fn(&Outcome, &Outcome) -> bool,
+    pub told: Told,
     pub columns: &'static [(&'static str, Column)],
 }
 
@@ -86,9 +96,9 @@ fn calls<I: ?Sized>(version: Version<I>, input: &I, out: &mut Outcome, count: u3
     Some(now() - begin)
 }
 
-/// The least time of a call, over a second of batches of at least a millisecond. A call that takes longer than REPEATED is not repeated. A
-/// batch of less than half the middle time is left out: the clock of a virtual processor may stand still.
-fn time<I: ?Sized>(version: Version<I>, input: &I, out: &mut Outcome, first: Duration) -> Option<Duration> {
+/// The least or the middle time of a call, over a second of batches of at least a millisecond. A call that takes longer than REPEATED is not
+/// repeated. A batch of less than half the middle time is left out: the clock of a virtual processor may stand still.
+fn time<I: ?Sized>(version: Version<I>, input: &I, out: &mut Outcome, first: Duration, told: Told) -> Option<Duration> {
     if first > REPEATED {
         return Some(first);
     }
@@ -100,12 +110,15 @@ fn time<I: ?Sized>(version: Version<I>, input: &I, out: &mut Outcome, first: Dur
     }
     each.sort();
     let middle = each[each.len() / 2];
-    each.into_iter().find(|time| *time >= middle / 2)
+    match told {
+        Told::Least => each.into_iter().find(|time| *time >= middle / 2),
+        Told::Middle => Some(middle),
+    }
 }
 
 fn shown_time(seconds: f64) -> String {
     match seconds {
-        s if s < 1e-7 => format!("{:.0} ns", s * 1e9),
+        s if s < 1e-6 => format!("{:.0} ns", s * 1e9),
         s if s < 1e-3 => format!("{:.1} us", s * 1e6),
         s if s < 1.0 => format!("{:.2} ms", s * 1e3),
         s => format!("{s:.2} s"),
@@ -148,7 +161,7 @@ impl<I: ?Sized> Benchmark<I> {
         line.split_whitespace().last()?.parse().ok()
     }
 
-    /// Each version's least time, once all of them gave the same result.
+    /// Each version's time, once all of them gave the same result.
     fn times(&self, name: &str, input: &I) -> Vec<Option<Duration>> {
         let mut outcomes: Vec<Outcome> = self.versions.iter().map(|_| cleared()).collect();
         let mut firsts = Vec::new();
@@ -157,8 +170,8 @@ impl<I: ?Sized> Benchmark<I> {
             let agree = firsts[k].is_none() || (self.agree)(&outcomes[0], &outcomes[k]);
             assert!(agree, "{name}: {function} differs from {}", self.versions[0].0);
         }
-        let least = |k: usize| time(self.versions[k].1, input, &mut outcomes[k], firsts[k]?);
-        (0..self.versions.len()).map(least).collect()
+        let timed = |k: usize| time(self.versions[k].1, input, &mut outcomes[k], firsts[k]?, self.told);
+        (0..self.versions.len()).map(timed).collect()
     }
 
     /// A line of a table, from the numbers of the versions.

@@ -1,11 +1,11 @@
 /* Pilfstera for C and C++: link libpilfstera.a, which `rt staticlib pilfstera` writes into target/staticlib.
 
-   Each function returns 0 where it was done, else the number of the refusal, 1 to 14 or 19, and stores a number through `returned`:
-   what its comment says where it was done, else what the table says. A refusal alters no buffer. The last two, which compare logs, are
-   the exception: they refuse nothing and have no `returned`. Nothing is asked of what the buffers hold.
+   Each function returns 0 where it was done, else the number of the refusal, 1 to 14, 19 or 22, and stores a number through
+   `returned`: what its comment says where it was done, else what the table says. A refusal alters no buffer. The last two, which compare
+   logs, are the exception: they refuse nothing and have no `returned`. Nothing is asked of what the buffers hold.
 
-   A slice is a pointer and a length, in bytes or in entries of 16 bits. A pointer beside a length of 0 is not read, but is not null
-   either. No two of the buffers and numbers that are written may overlap, and none of them a buffer that is read. The functions
+   A slice is a pointer and a length, in bytes or in entries of 16 or 64 bits. A pointer beside a length of 0 is not read, but is not
+   null either. No two of the buffers and numbers that are written may overlap, and none of them a buffer that is read. The functions
    allocate nothing and keep nothing from call to call, so threads may call them at once; making a chart takes less than 64 KiB of
    stack.
 
@@ -33,6 +33,8 @@
     14      chart              two blocks that no sequence tells apart                      place of the later record
     19      set-point          no carry rule with allowed factor and offset, or the
                                wanted value beyond its bounds                               0
+    22      going round        modulus, number of increments, start, an increment or
+                               the wanted value outside its limits                          0
 
    Places count bytes from 0. The first check that fails gives the refusal. Checks run in the order of their numbers, except that a
    run checks its sheet or chart, then 3 for the sequence, 11, 10. */
@@ -74,6 +76,10 @@ enum { PILFSTERA_SET = 0, PILFSTERA_CARRY = 1 };
 
 /* Most that a carry rule's factor, its offset and a wanted value are without their signs, as in version 2 of the sheet. No factor is 0. */
 enum { PILFSTERA_MOST_FACTOR = 100, PILFSTERA_MOST_OFFSET = 200000000, PILFSTERA_MOST_VALUE = 1000000 };
+
+/* Least and most that the modulus of a counter that goes round is, and most increments of one call; there is at least one. Start, wanted
+   value and increments are from 0 to one less than the modulus. */
+enum { PILFSTERA_LEAST_MODULUS = 2, PILFSTERA_MOST_MODULUS = 65536, PILFSTERA_MOST_INCREMENTS = 8 };
 
 /* A log of labels, or a part of one: so many entries, from a pointer on. */
 struct pilfstera_log { const uint16_t *entries; size_t length; };
@@ -126,6 +132,22 @@ uint8_t pilfstera_run_chart(const uint8_t *chart, size_t length, const uint8_t *
    number of steps. */
 uint8_t pilfstera_set_point(uint8_t kind, int64_t factor, int64_t offset, int64_t wanted, size_t *returned, int64_t *old,
                             int64_t *remainder);
+
+/* How often to use each of some increments, so that a counter that goes round comes from its start to a wanted value: refusal 22. Such a
+   counter, as of a dial without end stops, counts modulo `modulus`. `counts` are numbers from 0 to one less than the modulus, for which the
+   start and the sum of counts[i] * increments[i] give the wanted value modulo `modulus`; of all that do, those that come first in dictionary
+   order, so with the least counts[0], then with the least counts[1], and so on. All eight are written: one for each of the `count`
+   increments, in their order, then 0. `returned` is 8, or 0 where no counts lead to the wanted value, just if wanted value and start differ
+   modulo the greatest common divisor of the modulus and all increments; `counts` are left as they were then. So the modulus 12, the start
+   1, the wanted value 3 and the increments 8 and 3 give 1 and 2, since 1 + 1 * 8 + 2 * 3 = 15, which is 3 modulo 12; and the wanted value 2
+   gives none with the increments 8 and 6, since all that they reach from 1 is odd.
+
+   Refused are a modulus below PILFSTERA_LEAST_MODULUS or above PILFSTERA_MOST_MODULUS, a `count` of 0 or above PILFSTERA_MOST_INCREMENTS,
+   beside which no increment is read, and a start, a wanted value or an increment that is not below the modulus. A refusal leaves `counts` as
+   they were. Any numbers may be handed in, the ends of uint64_t too. It takes at most 36 steps of Euclid's algorithm and a few operations for
+   each increment, whatever the modulus. */
+uint8_t pilfstera_go_round(uint64_t modulus, uint64_t start, uint64_t wanted, const uint64_t *increments, size_t count,
+                           uint64_t counts[PILFSTERA_MOST_INCREMENTS], size_t *returned);
 
 /* Two logs of the same run, laid beside each other: returns the first index at which they differ, or the length of the shorter log where
    they differ at no index that both have. So they differ just if the index is below both lengths. 10 10 20 and 10 10 30 20 give 2;

@@ -103,13 +103,22 @@ mod library {
     /// The most that a wanted value is without its sign: the limit of a bound in version 2 of the sheet.
     pub const MOST_VALUE: i64 = 1_000_000;
 
+    /// The least that the modulus of a counter that goes round is. Start, wanted value and increments are below the modulus.
+    pub const LEAST_MODULUS: u64 = 2;
+
+    /// The most that the modulus of a counter that goes round is.
+    pub const MOST_MODULUS: u64 = 65_536;
+
+    /// The most increments of a counter that goes round. There is at least one.
+    pub const MOST_INCREMENTS: usize = 8;
+
     /// Why a call was turned back. It altered no buffer. As text it says so in words.
     #[derive(Clone, Copy, PartialEq, Eq, Debug)]
     pub struct Refusal {
-        /// The refusal's number, 1 to 14 or 19: the first check that failed.
+        /// The refusal's number, 1 to 14, 19 or 22: the first check that failed.
         pub number: u8,
         /// By number: 2, 4 to 8 and 12 to 14 the place in the sheet or chart, in bytes from 0; 3 the actual length, 10 the length needed,
-        /// 11 the index of the action; 1, 9 and 19 nothing, and 0.
+        /// 11 the index of the action; 1, 9, 19 and 22 nothing, and 0.
         pub returned: usize,
     }
 
@@ -133,6 +142,10 @@ mod library {
                 14 => ("two blocks are told apart by no sequence", "the later record stands there"),
                 19 => (
                     "the rule is no carry with allowed factor and offset, or the wanted value is beyond its bounds",
+                    "no place is told",
+                ),
+                22 => (
+                    "the modulus, the number of increments, the start, an increment or the wanted value is outside its limits",
                     "no place is told",
                 ),
                 _ => ("no refusal has this number", "what is returned has no meaning"),
@@ -216,6 +229,15 @@ mod library {
             returned: *mut usize,
             old: *mut i64,
             remainder: *mut i64,
+        ) -> u8;
+        pub(super) fn pilfstera_go_round(
+            modulus: u64,
+            start: u64,
+            wanted: u64,
+            increments: *const u64,
+            count: usize,
+            counts: *mut u64,
+            returned: *mut usize,
         ) -> u8;
         pub(super) fn pilfstera_first_difference(
             first: *const u16,
@@ -341,6 +363,29 @@ mod library {
         // SAFETY: four numbers of which nothing is asked, and three of our own to write.
         let number = unsafe { pilfstera_set_point(kind, factor, offset, wanted, &mut returned, &mut old, &mut remainder) };
         answer(number, returned, SetPoint { old, remainder })
+    }
+
+    /// How often to use each of some increments, so that a counter that goes round, modulo a number, comes from its start to a wanted value:
+    /// counts from 0 to one less than the modulus, for which the start and the sum of each count times its increment give the wanted value
+    /// modulo that number; of all that do, those that come first in dictionary order. There is one for each increment, in their order, then
+    /// 0. It is `None` where no counts lead to the wanted value, just if wanted value and start differ modulo the greatest common divisor of
+    /// the modulus and all increments. So the modulus 12, the start 1, the wanted value 3 and the increments `[8, 3]` give 1 and 2, since
+    /// 1 + 1 * 8 + 2 * 3 = 15, which is 3 modulo 12; and the wanted value 2 gives `None` with `[8, 6]`. It refuses with 22 a modulus below
+    /// [`LEAST_MODULUS`] or above [`MOST_MODULUS`], no increments or more than [`MOST_INCREMENTS`], and a start, a wanted value or an
+    /// increment that is not below the modulus. Any numbers may be handed in. It takes at most 36 steps of Euclid's algorithm, whatever the
+    /// modulus.
+    pub fn go_round(
+        modulus: u64,
+        start: u64,
+        wanted: u64,
+        increments: &[u64],
+    ) -> Result<Option<[u64; MOST_INCREMENTS]>, Refusal> {
+        let (mut returned, mut counts) = (0, [0; MOST_INCREMENTS]);
+        let (increments, count) = (increments.as_ptr(), increments.len());
+        // SAFETY: three numbers and a slice by pointer and length, of which nothing is asked, and eight numbers and one of our own to write.
+        let number = unsafe { pilfstera_go_round(modulus, start, wanted, increments, count, counts.as_mut_ptr(), &mut returned) };
+        // the number of counts stored, which is 0 for none
+        answer(number, returned, (returned > 0).then_some(counts))
     }
 
     /// Two logs of the same run, laid beside each other: the first index at which they differ, or the length of the shorter log where they

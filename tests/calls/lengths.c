@@ -1,5 +1,6 @@
 /* Writes the lengths and limits of the header, as C and as C++, the refusal of an empty sheet, the depth of the sample chart, the
-   set-points of a carry rule and of a set rule, and what is told of two logs. */
+   set-points of a carry rule and of a set rule, the counts of a counter that goes round, none and its refusal, and what is told of two
+   logs. */
 #include "pilfstera.h"
 #include <inttypes.h>
 #include <stdio.h>
@@ -12,6 +13,8 @@ int main(void) {
     uint8_t sheet[1] = {0}, sample[] = {'B', 'C', 'H', 1, 0, 1, 3, 10, 0, 1, 10, 0, 2, 20, 0, 255};
     size_t returned = 1;
     int64_t old = 0, remainder = 0;
+    const uint64_t increments[] = {8, 3};
+    uint64_t counts[PILFSTERA_MOST_INCREMENTS];
     const uint16_t log[] = {10, 10, 20, PILFSTERA_SKIPPED}, other[] = {10, 10, 30};
     struct pilfstera_log rest = {log, 0};
     printf("%d %d %d %d\n", PILFSTERA_SHEET, PILFSTERA_CHART, PILFSTERA_LIST, PILFSTERA_ACTIONS);
@@ -21,6 +24,7 @@ int main(void) {
     printf("%zu %zu\n", PILFSTERA_BOUND_SIZE(1), PILFSTERA_BOUND_SIZE(2));
     printf("%d\n", PILFSTERA_SKIPPED);
     printf("%d %d %d %d %d\n", PILFSTERA_SET, PILFSTERA_CARRY, PILFSTERA_MOST_FACTOR, PILFSTERA_MOST_OFFSET, PILFSTERA_MOST_VALUE);
+    printf("%d %d %d\n", PILFSTERA_LEAST_MODULUS, PILFSTERA_MOST_MODULUS, PILFSTERA_MOST_INCREMENTS);
     unsigned refused = pilfstera_check_sheet(sheet, 0, &returned);
     printf("refused %u at %zu\n", refused, returned);
     if (pilfstera_depth(sample, sizeof sample, &returned) == 0)
@@ -29,6 +33,13 @@ int main(void) {
         printf("old value %" PRId64 ", remainder %" PRId64 "\n", old, remainder);
     returned = 1;
     refused = pilfstera_set_point(PILFSTERA_SET, 3, 5, 16, &returned, &old, &remainder);
+    printf("refused %u at %zu\n", refused, returned);
+    if (pilfstera_go_round(12, 1, 3, increments, 2, counts, &returned) == 0)
+        printf("counts, %zu: %" PRIu64 " %" PRIu64 " .. %" PRIu64 "\n", returned, counts[0], counts[1], counts[7]);
+    if (pilfstera_go_round(12, 1, 3, increments, 1, counts, &returned) == 0 && returned == 0)
+        puts("none");
+    returned = 1;
+    refused = pilfstera_go_round(12, 1, 12, increments, 2, counts, &returned);
     printf("refused %u at %zu\n", refused, returned);
     printf("first difference %zu\n", pilfstera_first_difference(log, 4, other, 3));
     pilfstera_rest(other, 2, log, 4, &rest);

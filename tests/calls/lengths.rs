@@ -1,5 +1,6 @@
 //! Writes the lengths and limits of include/pilfstera.rs, taken in by `include!`, the refusal of an empty sheet without its words, the
-//! depth of the sample chart, the set-points of a carry rule and of a set rule, and what is told of two logs.
+//! depth of the sample chart, the set-points of a carry rule and of a set rule, the counts of a counter that goes round, none and its
+//! refusal, and what is told of two logs.
 
 mod pilfstera {
     include!("../../include/pilfstera.rs");
@@ -19,6 +20,7 @@ fn main() {
     println!("{} {}", bound_size(1), bound_size(2));
     println!("{}", entries[0]);
     println!("{SET} {CARRY} {MOST_FACTOR} {MOST_OFFSET} {MOST_VALUE}");
+    println!("{LEAST_MODULUS} {MOST_MODULUS} {MOST_INCREMENTS}");
     if let Err(Refusal { number, returned }) = check_sheet(&[]) {
         println!("refused {number} at {returned}");
     }
@@ -29,6 +31,15 @@ fn main() {
         println!("old value {old}, remainder {remainder}");
     }
     if let Err(Refusal { number, returned }) = set_point(SET, 3, 5, 16) {
+        println!("refused {number} at {returned}");
+    }
+    if let Ok(Some(counts)) = go_round(12, 1, 3, &[8, 3]) {
+        println!("counts, {}: {} {} .. {}", counts.len(), counts[0], counts[1], counts[7]);
+    }
+    if let Ok(None) = go_round(12, 1, 3, &[8]) {
+        println!("none");
+    }
+    if let Err(Refusal { number, returned }) = go_round(12, 1, 12, &[8, 3]) {
         println!("refused {number} at {returned}");
     }
     let (log, other) = ([10, 10, 20, SKIPPED], [10, 10, 30]);

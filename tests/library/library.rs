@@ -1,4 +1,4 @@
-//! The static library's nine functions: the safe ones of include/pilfstera.rs, and in `raw` each as a C program calls it. The file is
+//! The static library's ten functions: the safe ones of include/pilfstera.rs, and in `raw` each as a C program calls it. The file is
 //! included, not named by its path, so that its declarations of the C functions are in reach here.
 
 include!("../../include/pilfstera.rs");
@@ -6,8 +6,8 @@ include!("../../include/pilfstera.rs");
 /// For calls with noise in what is stored through pointers: the safe functions have numbers and a log of their own there.
 pub mod raw {
     use super::{
-        pilfstera_check_chart, pilfstera_check_sheet, pilfstera_depth, pilfstera_first_difference, pilfstera_make,
-        pilfstera_rest, pilfstera_run_chart, pilfstera_run_sheet, pilfstera_set_point, Log,
+        pilfstera_check_chart, pilfstera_check_sheet, pilfstera_depth, pilfstera_first_difference, pilfstera_go_round,
+        pilfstera_make, pilfstera_rest, pilfstera_run_chart, pilfstera_run_sheet, pilfstera_set_point, Log,
     };
 
     pub fn check_sheet(sheet: &[u8], returned: &mut usize) -> u8 {
@@ -75,6 +75,13 @@ pub mod raw {
     ) -> u8 {
         // SAFETY: three live numbers, borrowed apart; the function has no `requires`.
         unsafe { pilfstera_set_point(kind, factor, offset, wanted, returned, old, remainder) }
+    }
+
+    /// The counts are stored in the middle third of `room`.
+    pub fn go_round(modulus: u64, start: u64, wanted: u64, increments: &[u64], room: &mut [u64; 24], returned: &mut usize) -> u8 {
+        let (increments, count) = (increments.as_ptr(), increments.len());
+        // SAFETY: a slice's pointer and length, eight live numbers and one more, borrowed apart; the function has no `requires`.
+        unsafe { pilfstera_go_round(modulus, start, wanted, increments, count, room.as_mut_ptr().add(8), returned) }
     }
 
     pub fn first_difference(first: &[u16], second: &[u16]) -> usize {

@@ -1,10 +1,11 @@
 //! Holds the static library to an independent implementation that lists every configuration, on random sheets and charts of every kind,
-//! its set-points to a search, and its answers about two logs to a comparison in full. It stops at the first difference, with the bytes in
-//! hexadecimal, and fails if some kind of answer never came.
+//! its set-points to a search, its counts for counters that go round to lists of what increments reach, and its answers about two logs to a
+//! comparison in full. It stops at the first difference, with the bytes in hexadecimal, and fails if some kind of answer never came.
 
 mod charts;
 mod depth;
 mod generate;
+mod go_round;
 mod hard;
 mod library;
 mod logs;
@@ -450,6 +451,7 @@ fn kinds() -> Vec<String> {
     all.extend(versions::kinds());
     all.extend(depth::kinds());
     all.extend(set_point::kinds());
+    all.extend(go_round::kinds());
     all.extend(logs::kinds());
     let hard = hard::SMALL.iter().flat_map(|(kind, _)| ["charted", "refused 9"].map(|came| format!("{kind}: {came}")));
     all.extend(hard);
@@ -488,6 +490,7 @@ fn main() {
     depth::test(&mut test, count as usize);
     hard_sheets(&mut test, count as usize / 60);
     set_point::test(&mut test, count as usize);
+    go_round::test(&mut test, count as usize);
     logs::test(&mut test, count as usize);
     for (kind, times) in &test.kinds {
         println!("{times:8} {kind}");

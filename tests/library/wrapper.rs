@@ -1,11 +1,12 @@
-//! What include/pilfstera.rs has of its own: the words of a refusal, the lengths and limits, and what a run and a set-point answer. Each is
-//! held to what the library answers, or to documents 01 and 02.
+//! What include/pilfstera.rs has of its own: the words of a refusal, the lengths and limits, and what a run, a set-point and a counter that goes
+//! round answer. Each is held to what the library answers, or to documents 01 and 02.
 
 use crate::generate::{encode, one_counter, region};
 use crate::library::{
-    bound_size, chart_length, check_sheet, list_length, make, run_chart, run_room, run_sheet, set_point, Refusal, Run, SetPoint,
-    CARRY, LONGEST_CHART, LONGEST_LIST, LONGEST_SEQUENCE, LONGEST_SHEET, MOST_ACTIONS, MOST_BLOCKS, MOST_COUNTERS, MOST_FACTOR,
-    MOST_OFFSET, MOST_REGIONS, MOST_VALUE, SET, SKIPPED, VERSION_1_LONGEST_LIST, VERSION_1_LONGEST_SHEET,
+    bound_size, chart_length, check_sheet, go_round, list_length, make, run_chart, run_room, run_sheet, set_point, Refusal, Run,
+    SetPoint, CARRY, LEAST_MODULUS, LONGEST_CHART, LONGEST_LIST, LONGEST_SEQUENCE, LONGEST_SHEET, MOST_ACTIONS, MOST_BLOCKS,
+    MOST_COUNTERS, MOST_FACTOR, MOST_INCREMENTS, MOST_MODULUS, MOST_OFFSET, MOST_REGIONS, MOST_VALUE, SET, SKIPPED,
+    VERSION_1_LONGEST_LIST, VERSION_1_LONGEST_SHEET,
 };
 use crate::same;
 use crate::sheets::{self, Move, Rule, Sheet};
@@ -16,9 +17,9 @@ fn refused<T>(number: u8, returned: usize) -> Result<T, Refusal> {
     Err(Refusal { number, returned })
 }
 
-/// Each refusal's number, and what its words must say of the reason and of the number returned, from document 01's table and, for 19,
+/// Each refusal's number, and what its words must say of the reason and of the number returned, from document 01's table and, for 19 and 22,
 /// document 02. No refusal has another number.
-const WORDS: [(u8, &str, &str); 15] = [
+const WORDS: [(u8, &str, &str); 16] = [
     (1, "shorter than its header, or its mark or version", "no place"),
     (2, "count is outside its limits", "first such count stands there"),
     (3, "length differs from what the counts give, or is above 4,096 actions", "that is the actual length"),
@@ -34,6 +35,7 @@ const WORDS: [(u8, &str, &str); 15] = [
     (13, "one label bar different actions", "later record stands there"),
     (14, "told apart by no sequence", "later record stands there"),
     (19, "no carry with allowed factor and offset, or the wanted value is beyond its bounds", "no place"),
+    (22, "modulus, the number of increments, the start, an increment or the wanted value is outside its limits", "no place"),
 ];
 
 /// The words behind a refusal's number and place.
@@ -187,9 +189,32 @@ fn set_points() {
     same("a set-point for debugging", &[], format!("{answer:?}"), "SetPoint { old: -7, remainder: 2 }".into());
 }
 
+/// The limits of a counter that goes round, and what is answered: counts, none, or the refusal. What is at a limit is answered, and one beyond
+/// is not.
+fn go_rounds() {
+    same("counts", &[], go_round(12, 1, 3, &[8, 3]), Ok(Some([1, 2, 0, 0, 0, 0, 0, 0])));
+    same("counts that are all 0", &[], go_round(12, 1, 1, &[8, 3]), Ok(Some([0; MOST_INCREMENTS])));
+    same("no counts", &[], go_round(12, 1, 2, &[8, 6]), Ok(None));
+    let from_0 = |modulus| go_round(modulus, 0, 0, &[0]);
+    for modulus in [LEAST_MODULUS, MOST_MODULUS] {
+        let most = modulus - 1;
+        same("a modulus at its limit", &[], go_round(modulus, 0, most, &[1]), Ok(Some([most, 0, 0, 0, 0, 0, 0, 0])));
+        let apart =
+            [go_round(modulus, modulus, 0, &[1]), go_round(modulus, 0, modulus, &[1]), go_round(modulus, 0, 0, &[modulus])];
+        same("start, wanted value or increment at the modulus", &[], apart, [refused(22, 0); 3]);
+    }
+    same("one below LEAST_MODULUS", &[], from_0(LEAST_MODULUS - 1), refused(22, 0));
+    same("one beyond MOST_MODULUS", &[], from_0(MOST_MODULUS + 1), refused(22, 0));
+    let many = [1; MOST_INCREMENTS + 1];
+    same("MOST_INCREMENTS", &[], go_round(12, 3, 3, &many[1..]), Ok(Some([0; MOST_INCREMENTS])));
+    same("one more", &[], go_round(12, 3, 3, &many), refused(22, 0));
+    same("no increments", &[], go_round(12, 3, 3, &[]), refused(22, 0));
+}
+
 pub fn test() {
     refusals();
     [1, 2].into_iter().for_each(limits);
     runs();
     set_points();
+    go_rounds();
 }

@@ -15,6 +15,7 @@ use Rattle.charting.specs.declared.Made.{Made}
 use Rattle.model.specs.declared.Rule.{Rule}
 use Rattle.model.specs.declared.Rule.the-variants.{Set, Carry}
 use Rattle.set_point.specs.declared.SetPoint.{SetPoint}
+use Rattle.congruence.specs.declared.Solved.{Solved}
 
 -- a check: 0 and 0 where it passed
 unfoldable pub checkNumber : Checked → ℕ
@@ -90,3 +91,14 @@ pointOld (SetPoint.Refused n p) before = before
 unfoldable pub pointRemainder : SetPoint → ℤ → ℤ
 pointRemainder (SetPoint.Done x r) before = r
 pointRemainder (SetPoint.Refused n p) before = before
+
+-- a counter that goes round: 0 and the number of counts given, eight, or 0 where there are none
+unfoldable pub solvedNumber : Solved → ℕ
+solvedNumber Solved.Done = 0
+solvedNumber Solved.None = 0
+solvedNumber (Solved.Refused n p) = n
+
+unfoldable pub solvedReturned : Solved → ℕ
+solvedReturned Solved.Done = 8
+solvedReturned Solved.None = 0
+solvedReturned (Solved.Refused n p) = p

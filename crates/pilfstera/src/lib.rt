@@ -14,13 +14,15 @@ ghost use Rattle.chart.specs.Depth.{chartDepth};
 ghost use Rattle.chart.specs.RunChart.{chartRan, chartLeft};
 ghost use Rattle.charting.specs.Making.{makeChecks, madeBy, writtenBy};
 ghost use Rattle.set_point.specs.SetPoint.{setPoint};
+ghost use Rattle.congruence.specs.Congruence.{goRound, countsLeft};
 ghost use Rattle.logs.specs.Compare.{firstDifference, restOf, lent, partOf};
-ghost use Rattle.pilfstera.specs.Exports.{checkNumber, checkReturned, runNumber, runReturned, runBarred, depthNumber, depthReturned, makeNumber, makeReturned, barredIndex, ruleFrom, pointNumber, pointReturned, pointOld, pointRemainder};
+ghost use Rattle.pilfstera.specs.Exports.{checkNumber, checkReturned, runNumber, runReturned, runBarred, depthNumber, depthReturned, makeNumber, makeReturned, barredIndex, ruleFrom, pointNumber, pointReturned, pointOld, pointRemainder, solvedNumber, solvedReturned};
 use answers::Checked;
 use answers::FirstBarred;
 use answers::Ran;
 use chart::Settled;
 use charting::Made;
+use congruence::Solved;
 use model::Rule;
 use set_point::SetPoint;
 
@@ -161,6 +163,30 @@ fn told_point(point: SetPoint, returned: &mut usize, old: &mut i64, remainder: &
     }
 }
 
+// Stores how many counts were given, or what a refusal returns, and gives its number.
+fn told_solved(solved: Solved, returned: &mut usize) -> u8
+    ensures { λ r. ⌜ r ≡ solvedNumber solved ⌝ }
+    ensures { λ _. ⌜ now (returned .exit) ≡ solvedReturned solved ⌝ }
+{
+    match solved {
+        Solved::Done => {
+            *returned = 8;
+            0
+        }
+        Solved::None => {
+            *returned = 0;
+            0
+        }
+        Solved::Refused {
+            number,
+            returned: value,
+        } => {
+            *returned = value;
+            number
+        }
+    }
+}
+
 // Checks a sheet.
 #[no_mangle]
 pub extern "C" fn pilfstera_check_sheet(sheet: &[u8], returned: &mut usize) -> u8
@@ -259,6 +285,24 @@ pub extern "C" fn pilfstera_set_point(
 {
     let point = set_point::find(rule_from(kind, factor, offset), wanted);
     told_point(point, returned, old, remainder)
+}
+
+// How often to use each increment to bring a counter that goes round from a start to a wanted value.
+#[no_mangle]
+pub extern "C" fn pilfstera_go_round(
+    modulus: u64,
+    start: u64,
+    wanted: u64,
+    increments: &[u64],
+    counts: &mut [u64; 8],
+    returned: &mut usize,
+) -> u8
+    ensures { λ r. ⌜ r ≡ solvedNumber (goRound modulus start wanted (now (increments .entry))) ⌝ }
+    ensures { λ _. ⌜ now (counts .exit) ≡ countsLeft modulus start wanted (now (increments .entry)) (now (counts .entry)) ⌝ }
+    ensures { λ _. ⌜ now (returned .exit) ≡ solvedReturned (goRound modulus start wanted (now (increments .entry))) ⌝ }
+{
+    let solved = congruence::solve(modulus, start, wanted, increments, counts);
+    told_solved(solved, returned)
 }
 
 // The first index where two logs differ, or the length of the shorter.

@@ -1,5 +1,5 @@
--- The worked examples of document 01, and some of document 02 (version 2 of U4, depths of U6), computed on the definitions: a row for each, one test
--- over the table, one proof.
+-- The worked examples of document 01, and some of document 02 (version 2 of U4, depths of U6, counts of U13), computed on the definitions: a row for
+-- each, one test over the table, one proof.
 use mathlib.Core.Bool.{Bool, true, false, _&&_}
 use mathlib.Core.List.{List, [], _∷_}
 use mathlib.Core.Option.{Option, some, none}
@@ -30,6 +30,7 @@ use Rattle.model.specs.Listing.{numbers, numbersIn, prefixed, valuesIn, members
 use Rattle.sheet_bytes.specs.Layout.{versionOf, wide, boundSize, offsetLimit, moveSize, regionSize, startPlace, startValue, regionPlace, labelAt, stateAt, lowPlace, highPlace, movePlace, rulePlace, factorOf, offsetOf}
 use Rattle.sheet_bytes.specs.Decode.{ruleOf, moveOf, rangeAt, boxAt, moveAt, regionAt, startOf, decode}
 use Rattle.sheet_form.specs.Form.{sameBytes, checkHeader, checkCounts, checkLength, checkValue, checkBound, checkRule, checkZeroRule, checkMove, checkFields, checkLimits}
+use Rattle.congruence.specs.Congruence.{total, countLists, firstThat, firstSolution, allBelow, allowed, eight, given, countsLeft}
 use Rattle.sheet.specs.Check.{checkLabel, overlap, checkOverlap, checkStart, every, lands, checkLanding, sheetCheck}
 
 -- one example: what is computed, and what document 01 says it is
@@ -48,6 +49,8 @@ pub data Row : Type 0 where
   reading-row : Sheet → List ℕ → List ℕ → Option ℕ → Row
   -- a chart's settling depth, and the greatest that its blocks and labels allow
   depth-row : List ℕ → ℕ → ℕ → Row
+  -- a counter that goes round: modulus, start, wanted value and increments, and the eight counts, or no list where they are left as they were
+  counts-row : ℕ → ℕ → ℕ → List ℕ → List ℕ → Row
 
 pub sameZ : ℤ → ℤ → Bool
 sameZ a b = leZ a b && leZ b a
@@ -78,6 +81,7 @@ test (refused-row s n p) = sameChecked (sheetCheck s) (Refused n p)
 test (boxes-row n s l) = sameList (boxListOf n s) l
 test (reading-row s w l b) = sameList (sheetReading s w .entries) l && sameOption (sheetReading s w .barred) b
 test (depth-row c d n) = eqb (depthOf c) d && eqb (depthLimit c) n
+test (counts-row m s w xs l) = sameList (countsLeft m s w xs []) l
 
 -- every row passes
 pub passes : List Row → Bool
@@ -181,8 +185,14 @@ table =
     ∷ refused-row (changed wideBytes 29 (1 ∷ 194 ∷ 235 ∷ 11 ∷ [])) 4 29
     ∷ refused-row (changed bytes 23 (1 ∷ 9 ∷ 61 ∷ [])) 4 23
     ∷ refused-row (changed wideBytes 29 (1 ∷ 9 ∷ 61 ∷ [])) 8 24
+    -- on a dial of 12, from 1 to 6 with the increments 8 and 3; from 0 to 9 with 3 and 1, where 3 and 0 would do too; none from 1 to 6 with 8 and 4; and
+    -- 12 is no value of it
+    ∷ counts-row 12 1 6 (8 ∷ 3 ∷ []) (1 ∷ 3 ∷ 0 ∷ 0 ∷ 0 ∷ 0 ∷ 0 ∷ 0 ∷ [])
+    ∷ counts-row 12 0 9 (3 ∷ 1 ∷ []) (0 ∷ 9 ∷ 0 ∷ 0 ∷ 0 ∷ 0 ∷ 0 ∷ 0 ∷ [])
+    ∷ counts-row 12 1 6 (8 ∷ 4 ∷ []) []
+    ∷ counts-row 12 1 12 (8 ∷ 3 ∷ []) []
     ∷ []
 
 pub worked-examples : T (passes table)
-unfolding passes test table sameZ sameList sameOption sameChecked bytes wideBytes changed region carry sheet first mirror doubling range smaller larger contains meet size floorBy floor ceiling inverse split bitsOf collect after entry written earliest firstBarred reading place known added visited visitedAt visitedNext explore within inBox placeIn regionNumber regionOf applied updated landing moved step sheetSystem sheetReading emptied cut cuts preimage narrowed classBox volume volumes configurations classOf sameClass blocks targetByte chartRecord chartOf rangeBytes boxRecord boxListOf joined unsignedAt signedOf signedAt vacant run andThen demand numbers numbersIn prefixed valuesIn members versionOf wide boundSize offsetLimit moveSize regionSize startPlace startValue regionPlace labelAt stateAt lowPlace highPlace movePlace rulePlace factorOf offsetOf ruleOf moveOf rangeAt boxAt moveAt regionAt startOf decode sameBytes checkHeader checkCounts checkLength checkValue checkBound checkRule checkZeroRule checkMove checkFields checkLimits checkLabel overlap checkOverlap checkStart every lands checkLanding sheetCheck count least counting.numbers counting.has counting.classes recordAt labelOf targetOf sameTarget refines roundClass parts depthOf labelCount depthLimit
+unfolding passes test table sameZ sameList sameOption sameChecked bytes wideBytes changed region carry sheet first mirror doubling range smaller larger contains meet size floorBy floor ceiling inverse split bitsOf collect after entry written earliest firstBarred reading place known added visited visitedAt visitedNext explore within inBox placeIn regionNumber regionOf applied updated landing moved step sheetSystem sheetReading emptied cut cuts preimage narrowed classBox volume volumes configurations classOf sameClass blocks targetByte chartRecord chartOf rangeBytes boxRecord boxListOf joined unsignedAt signedOf signedAt vacant run andThen demand numbers numbersIn prefixed valuesIn members versionOf wide boundSize offsetLimit moveSize regionSize startPlace startValue regionPlace labelAt stateAt lowPlace highPlace movePlace rulePlace factorOf offsetOf ruleOf moveOf rangeAt boxAt moveAt regionAt startOf decode sameBytes checkHeader checkCounts checkLength checkValue checkBound checkRule checkZeroRule checkMove checkFields checkLimits checkLabel overlap checkOverlap checkStart every lands checkLanding sheetCheck count least counting.numbers counting.has counting.classes recordAt labelOf targetOf sameTarget refines roundClass parts depthOf labelCount depthLimit total countLists firstThat firstSolution allBelow allowed eight given countsLeft
 worked-examples = tt

@@ -1,0 +1,10 @@
+pub mod Congruence
+pub mod Modular
+pub mod Euclid
+pub mod Divisor
+pub mod Greedy
+pub mod Dictionary
+pub mod Theorems
+pub mod Answered
+pub mod Tails
+pub mod Machine
