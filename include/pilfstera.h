@@ -1,13 +1,13 @@
 /* Pilfstera for C and C++: link libpilfstera.a, which `rt staticlib pilfstera` writes into target/staticlib.
 
-   Each function returns 0 where it was done, else the number of the refusal, 1 to 14, 19 or 22, and stores a number through
+   Each function returns 0 where it was done, else the number of the refusal, 1 to 15, 19 or 22, and stores a number through
    `returned`: what its comment says where it was done, else what the table says. A refusal alters no buffer. The last two, which compare
    logs, are the exception: they refuse nothing and have no `returned`. Nothing is asked of what the buffers hold.
 
    A slice is a pointer and a length, in bytes or in entries of 16 or 64 bits. A pointer beside a length of 0 is not read, but is not
    null either. No two of the buffers and numbers that are written may overlap, and none of them a buffer that is read. The functions
-   allocate nothing and keep nothing from call to call, so threads may call them at once; making a chart takes less than 64 KiB of
-   stack.
+   allocate nothing and keep nothing from call to call, so threads may call them at once; making a chart, or finding the
+   way to a block, takes less than 64 KiB of stack.
 
    A sheet has version 1 or 2, which is its byte 3. Version 1 has bounds and start values of 16 bits, and offsets from -4,000,000 to
    4,000,000; version 2 has bounds and start values of 32 bits, from -1,000,000 to 1,000,000, and offsets from -200,000,000 to
@@ -25,19 +25,20 @@
      6      sheet              two regions that share a configuration                       place of the later region
      7      sheet              the start is in no region                                    8, place of the start state
      8      sheet              an open move that leads out of all regions                   place of the first such move record
-     9      making             more than 255 blocks                                         0
-    10      making, run        a buffer too short; chart, then list                         length needed, in entries of the buffer
+     9      making, way        more than 255 blocks                                         0
+    10      making, run, way   a buffer too short; chart, then list                         length needed, in entries of the buffer
     11      run                an action that the sheet or chart lacks                      index of the first
     12      chart              blocks not numbered as first named                           place of the target or record
     13      chart              same label, other actions barred                             place of the later record
     14      chart              two blocks that no sequence tells apart                      place of the later record
+    15      way                a block number not below the number of blocks                the number of blocks
     19      set-point          no carry rule with allowed factor and offset, or the
                                wanted value beyond its bounds                               0
     22      going round        modulus, number of increments, start, an increment or
                                the wanted value outside its limits                          0
 
    Places count bytes from 0. The first check that fails gives the refusal. Checks run in the order of their numbers, except that a
-   run checks its sheet or chart, then 3 for the sequence, 11, 10. */
+   run checks its sheet or chart, then 3 for the sequence, 11, 10, and a way its sheet, then 9, 15, 10. */
 #ifndef PILFSTERA_H
 #define PILFSTERA_H
 
@@ -66,6 +67,11 @@ enum { PILFSTERA_MOST_BLOCKS = 255, PILFSTERA_MOST_ACTIONS = 8, PILFSTERA_MOST_C
 
 /* Entries that a run writes: one for the start, and one for each action. */
 #define PILFSTERA_RUN_ROOM(actions) ((size_t)(actions) + 1)
+
+/* Bytes of the longest way to a block, and those that the buffer for a way needs on a chart of so many blocks, whichever block is asked
+   for. */
+enum { PILFSTERA_WAY = 254 };
+#define PILFSTERA_WAY_ROOM(blocks) ((size_t)(blocks) - 1)
 
 /* What a run writes in the place of a label for an action that is barred. No label is this number: as one it is refused 4. */
 enum { PILFSTERA_SKIPPED = 65535 };
@@ -117,6 +123,15 @@ uint8_t pilfstera_run_sheet(const uint8_t *sheet, size_t length, const uint8_t *
                             size_t room, size_t *returned, size_t *barred);
 uint8_t pilfstera_run_chart(const uint8_t *chart, size_t length, const uint8_t *actions, size_t count, uint16_t *entries,
                             size_t room, size_t *returned, size_t *barred);
+
+/* The way to a block of a sheet's chart, the action sequence that brings a controller there from its start: refusals 1 to 9, then 15 and
+   10. Writes the shortest sequence that leads from the start to a configuration of the block, and of several the one that comes first in
+   dictionary order by action number, a byte for each action. `returned` is its length, 0 for block 0; only so many bytes are written, from
+   the front, and what lies behind is left as it was. Blocks are numbered from 0, as in the chart and the box list that pilfstera_make gives
+   for the same sheet; any number may be handed in. For N blocks `room` must be at least N - 1, also where the way is shorter. No way is
+   longer, and none has a barred action: a run of it on the sheet ends inside the box that record `block` of the box list holds. It takes
+   about as long as making the chart. */
+uint8_t pilfstera_way(const uint8_t *sheet, size_t length, size_t block, uint8_t *actions, size_t room, size_t *returned);
 
 /* The set-point of a rule, the old value that brings a counter to a wanted reading or just below it: refusal 19. A carry rule gives
    factor * x + offset for the old value x. `old` is the x and `remainder` the r with wanted - offset = factor * x + r and r from 0 to one

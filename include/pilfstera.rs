@@ -88,6 +88,14 @@ mod library {
         actions + 1
     }
 
+    /// Bytes of the longest way to a block: a buffer of this length suffices for every sheet and block.
+    pub const LONGEST_WAY: usize = 254;
+
+    /// Bytes that the buffer for a way needs on a chart of so many blocks, whichever block is asked for. A chart has at least one.
+    pub const fn way_room(blocks: usize) -> usize {
+        blocks - 1
+    }
+
     /// The kind of a rule that sets, as in a sheet's rule record: it gives one value whatever the old one was.
     pub const SET: u8 = 0;
 
@@ -115,10 +123,10 @@ mod library {
     /// Why a call was turned back. It altered no buffer. As text it says so in words.
     #[derive(Clone, Copy, PartialEq, Eq, Debug)]
     pub struct Refusal {
-        /// The refusal's number, 1 to 14, 19 or 22: the first check that failed.
+        /// The refusal's number, 1 to 15, 19 or 22: the first check that failed.
         pub number: u8,
         /// By number: 2, 4 to 8 and 12 to 14 the place in the sheet or chart, in bytes from 0; 3 the actual length, 10 the length needed,
-        /// 11 the index of the action; 1, 9, 19 and 22 nothing, and 0.
+        /// 11 the index of the action, 15 the number of blocks; 1, 9, 19 and 22 nothing, and 0.
         pub returned: usize,
     }
 
@@ -140,6 +148,7 @@ mod library {
                 12 => ("the blocks are not numbered as first named", "the target or record that shows it stands there"),
                 13 => ("two blocks of one label bar different actions", "the later record stands there"),
                 14 => ("two blocks are told apart by no sequence", "the later record stands there"),
+                15 => ("the sheet's chart has no block of this number", "that is the number of blocks"),
                 19 => (
                     "the rule is no carry with allowed factor and offset, or the wanted value is beyond its bounds",
                     "no place is told",
@@ -220,6 +229,14 @@ mod library {
             room: usize,
             returned: *mut usize,
             barred: *mut usize,
+        ) -> u8;
+        pub(super) fn pilfstera_way(
+            sheet: *const u8,
+            length: usize,
+            block: usize,
+            actions: *mut u8,
+            room: usize,
+            returned: *mut usize,
         ) -> u8;
         pub(super) fn pilfstera_set_point(
             kind: u8,
@@ -349,6 +366,22 @@ mod library {
     /// then the sequence and the buffer likewise. A sheet and its chart read the same.
     pub fn run_chart(chart: &[u8], actions: &[u8], entries: &mut [u16]) -> Result<Run, Refusal> {
         run(pilfstera_run_chart, chart, actions, entries)
+    }
+
+    /// The way to a block of a sheet's chart, the action sequence that brings a controller there from its start: the shortest that leads from
+    /// the start to a configuration of the block, and of several the one that comes first in dictionary order by action number. It is written
+    /// from the front of the buffer, a byte for each action, and what lies behind is left as it was; its length is given, 0 for block 0. Blocks
+    /// are numbered from 0, as in the chart and the box list that [`make`] gives for the same sheet. It refuses what [`check_sheet`] does, then
+    /// 9, then 15 a block that the chart lacks, whatever its number, then 10 a buffer of fewer than [`way_room`] bytes, also where the way is
+    /// shorter. No way is longer, and none has a barred action: a run of it on the sheet ends inside the box that the list has for the block.
+    pub fn way(sheet: &[u8], block: usize, actions: &mut [u8]) -> Result<usize, Refusal> {
+        let mut returned = 0;
+        // SAFETY: two slices by pointer and length, and a number of our own to write. What is written is borrowed apart from all else, and
+        // nothing is asked of what the slices hold or of the block.
+        let number = unsafe {
+            pilfstera_way(sheet.as_ptr(), sheet.len(), block, actions.as_mut_ptr(), actions.len(), &mut returned)
+        };
+        answer(number, returned, returned)
     }
 
     /// The set-point of a rule, the old value that brings a counter to a wanted reading or just below it: the one old value x and remainder

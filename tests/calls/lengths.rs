@@ -1,6 +1,6 @@
-//! Writes the lengths and limits of include/pilfstera.rs, taken in by `include!`, the refusal of an empty sheet without its words, the
-//! depth of the sample chart, the set-points of a carry rule and of a set rule, the counts of a counter that goes round, none and its
-//! refusal, and what is told of two logs.
+//! Writes the lengths and limits of include/pilfstera.rs, taken in by `include!`, the refusal of an empty sheet without its words, the ways
+//! to two blocks of the sample sheet and the refusal of a third, the depth of the sample chart, the set-points of a carry rule and of a set
+//! rule, the counts of a counter that goes round, none and its refusal, and what is told of two logs.
 
 mod pilfstera {
     include!("../../include/pilfstera.rs");
@@ -17,11 +17,24 @@ fn main() {
     println!("{VERSION_1_LONGEST_SHEET} {VERSION_1_LONGEST_LIST}");
     println!("{MOST_BLOCKS} {MOST_ACTIONS} {MOST_COUNTERS} {MOST_REGIONS}");
     println!("{} {} {} {}", chart.len(), narrow.len(), wide.len(), entries.len());
+    println!("{LONGEST_WAY} {}", [0u8; way_room(MOST_BLOCKS)].len());
     println!("{} {}", bound_size(1), bound_size(2));
     println!("{}", entries[0]);
     println!("{SET} {CARRY} {MOST_FACTOR} {MOST_OFFSET} {MOST_VALUE}");
     println!("{LEAST_MODULUS} {MOST_MODULUS} {MOST_INCREMENTS}");
     if let Err(Refusal { number, returned }) = check_sheet(&[]) {
+        println!("refused {number} at {returned}");
+    }
+    let first = b"MSH\x01\x00\x01\x01\x02\x00\x02\x00\x0A\x00\x00\x00\x00\x07\x00\x01\x00\x01\x00\x02\x01\x00\x00\x00";
+    let sheet = [&first[..], b"\x14\x00\x00\x08\x00\x0F\x00", &[0; 9]].concat();
+    let mut actions = [9; way_room(3)];
+    if let Ok(length) = way(&sheet, 0, &mut actions) {
+        println!("way of {length}");
+    }
+    if let Ok(length) = way(&sheet, 2, &mut actions) {
+        println!("way of {length}: {} {}", actions[0], actions[1]);
+    }
+    if let Err(Refusal { number, returned }) = way(&sheet, usize::MAX, &mut []) {
         println!("refused {number} at {returned}");
     }
     if let Ok(depth) = depth(b"BCH\x01\x00\x01\x03\x0A\x00\x01\x0A\x00\x02\x14\x00\xFF") {

@@ -9,7 +9,7 @@ import re
 import sys
 
 CRATES = pathlib.Path("crates")
-REFUSALS = [*range(1, 15), 19, 22]
+REFUSALS = [*range(1, 16), 19, 22]
 PATH = r"(?:crates|tests|tools|docs|examples|include|bench|\.ci)(?:/[\w.-]+)*/?"
 
 

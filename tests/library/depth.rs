@@ -3,8 +3,11 @@
 use crate::charts::{self, Chart};
 use crate::library::{self, raw};
 use crate::sheets::Refusal;
-use crate::{generate, machines, plain, rows, same, told, Test};
+use crate::{generate, machines, plain, range, rows, same, told, Test};
 use std::collections::BTreeSet;
+
+/// The greatest depth that a chart can have.
+const DEEPEST: usize = 253;
 
 /// Up to so many entries, all that is read from the blocks of a chart is listed.
 const LISTED: usize = 50_000;
@@ -33,15 +36,15 @@ impl Test {
         let (depth, blocks) = (chart.depth, chart.records.len());
         if let Some(listed) = charts::depth_by_listing(chart, LISTED) {
             same("depth by all sequences", bytes, listed, depth);
-            self.count(format!("depth by all sequences: {}", range(depth)));
+            self.count(format!("depth by all sequences: {}", range(depth, DEEPEST)));
         }
         let bound = blocks - chart.records.iter().map(|r| r.label).collect::<BTreeSet<_>>().len();
         same("depth within its bound", bytes, depth <= bound, true);
         self.count(if depth == bound { "depth at its bound" } else { "depth below its bound" });
-        self.count(format!("depth: {}", range(depth)));
+        self.count(format!("depth: {}", range(depth, DEEPEST)));
         match blocks {
             1 => self.count("depth of 1 block"),
-            255 => self.count(format!("depth of 255 blocks: {}", range(depth))),
+            255 => self.count(format!("depth of 255 blocks: {}", range(depth, DEEPEST))),
             _ => {}
         }
     }
@@ -50,18 +53,6 @@ impl Test {
     fn known_depth(&mut self, what: &str, bytes: &[u8], expected: Result<usize, Refusal>) {
         let checked = self.checked_chart(bytes);
         same(what, bytes, checked.map(|chart| chart.depth), expected);
-    }
-}
-
-fn range(depth: usize) -> &'static str {
-    match depth {
-        0 => "0",
-        1 => "1",
-        2 => "2",
-        3..=5 => "3 to 5",
-        6..=50 => "6 to 50",
-        51..=252 => "51 to 252",
-        _ => "253",
     }
 }
 
@@ -115,7 +106,7 @@ fn random(test: &mut Test, count: usize) {
         let depth = test.checked_chart(&bytes).map(|chart| chart.depth);
         same("whether a random chart is accepted", &bytes, depth.is_ok(), true);
         if let (Ok(depth), 6..) = (depth, bytes[6]) {
-            test.count(format!("random chart of 6 blocks or more: depth {}", range(depth)));
+            test.count(format!("random chart of 6 blocks or more: depth {}", range(depth, DEEPEST)));
         }
         damaged(test, &bytes);
     }

@@ -1,4 +1,4 @@
-//! The static library's ten functions: the safe ones of include/pilfstera.rs, and in `raw` each as a C program calls it. The file is
+//! The static library's eleven functions: the safe ones of include/pilfstera.rs, and in `raw` each as a C program calls it. The file is
 //! included, not named by its path, so that its declarations of the C functions are in reach here.
 
 include!("../../include/pilfstera.rs");
@@ -7,7 +7,7 @@ include!("../../include/pilfstera.rs");
 pub mod raw {
     use super::{
         pilfstera_check_chart, pilfstera_check_sheet, pilfstera_depth, pilfstera_first_difference, pilfstera_go_round,
-        pilfstera_make, pilfstera_rest, pilfstera_run_chart, pilfstera_run_sheet, pilfstera_set_point, Log,
+        pilfstera_make, pilfstera_rest, pilfstera_run_chart, pilfstera_run_sheet, pilfstera_set_point, pilfstera_way, Log,
     };
 
     pub fn check_sheet(sheet: &[u8], returned: &mut usize) -> u8 {
@@ -62,6 +62,11 @@ pub mod raw {
         unsafe {
             pilfstera_make(sheet.as_ptr(), sheet.len(), chart.as_mut_ptr(), chart.len(), list.as_mut_ptr(), list.len(), returned)
         }
+    }
+
+    pub fn way(sheet: &[u8], block: usize, actions: &mut [u8], returned: &mut usize) -> u8 {
+        // SAFETY: as above.
+        unsafe { pilfstera_way(sheet.as_ptr(), sheet.len(), block, actions.as_mut_ptr(), actions.len(), returned) }
     }
 
     pub fn set_point(

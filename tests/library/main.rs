@@ -1,6 +1,6 @@
 //! Holds the static library to an independent implementation that lists every configuration, on random sheets and charts of every kind,
-//! its set-points to a search, its counts for counters that go round to lists of what increments reach, and its answers about two logs to a
-//! comparison in full. It stops at the first difference, with the bytes in hexadecimal, and fails if some kind of answer never came.
+//! its ways to blocks to all sequences in order, its set-points to a search, its counts for counters that go round to lists of what increments
+//! reach, and its answers about two logs to a comparison in full. It stops at the first difference, with the bytes in hexadecimal, and fails if some kind of answer never came.
 
 mod charts;
 mod depth;
@@ -16,6 +16,7 @@ mod rows;
 mod set_point;
 mod sheets;
 mod versions;
+mod way;
 mod wrapper;
 
 use charts::Chart;
@@ -48,6 +49,17 @@ fn same<T: PartialEq + std::fmt::Debug>(what: &str, bytes: &[u8], library: T, ex
 /// An answer as C sees it: 0 and a value, or a refusal.
 fn told(answer: Result<usize, Refusal>) -> (u8, usize) {
     answer.map_or_else(|r| (r.number, r.returned), |value| (0, value))
+}
+
+/// A number from 0 to `most`, in a few words.
+fn range(number: usize, most: usize) -> String {
+    match number {
+        0..=2 => number.to_string(),
+        3..=5 => "3 to 5".into(),
+        6..=50 => "6 to 50".into(),
+        _ if number < most => format!("51 to {}", most - 1),
+        _ => most.to_string(),
+    }
 }
 
 /// A refusal of the safe functions, to be compared with one of the independent implementation.
@@ -216,6 +228,7 @@ impl Test {
                 let (chart_room, list_room) = (self.rng.below(60), self.rng.below(60));
                 self.make(bytes, &Err(refusal), chart_room, list_room);
                 self.run_refused("sheet", bytes, refusal);
+                self.way_refused(bytes, refusal);
                 "refused by the check"
             }
         }
@@ -225,11 +238,15 @@ impl Test {
         self.count(format!("sheet: accepted, counters {}", sheet.counters));
         versions::used(sheet).into_iter().for_each(|what| self.count(what));
         let read = |actions: &[u8]| sheets::reading(sheet, actions);
-        let expected = sheets::make(sheet);
+        let (expected, ways) = match sheets::make_with_ways(sheet) {
+            Ok((made, ways)) => (Ok(made), ways),
+            Err(refusal) => (Err(refusal), Vec::new()),
+        };
         let Ok(made) = &expected else {
             self.make(bytes, &expected, 3000, 7000);
             self.make(bytes, &expected, 0, 0);
             self.runs(&[("sheet", bytes)], sheet.actions, read);
+            self.way_refused(bytes, Refusal { number: 9, returned: 0 });
             return "refused 9";
         };
         self.count(match made.blocks {
@@ -247,6 +264,7 @@ impl Test {
         let checked = self.checked_chart(&made.chart);
         same("check of the chart made", bytes, checked.map(|_| ()), Ok(()));
         self.runs(&[("sheet", bytes), ("chart", &made.chart)], sheet.actions, read);
+        self.ways(bytes, sheet, made, &ways);
         "charted"
     }
 
@@ -450,6 +468,7 @@ fn kinds() -> Vec<String> {
     all.extend(numbers("run on a chart: refused ", &[3, 10, 11]));
     all.extend(versions::kinds());
     all.extend(depth::kinds());
+    all.extend(way::kinds());
     all.extend(set_point::kinds());
     all.extend(go_round::kinds());
     all.extend(logs::kinds());
@@ -489,6 +508,7 @@ fn main() {
     random_charts(&mut test, count as usize);
     depth::test(&mut test, count as usize);
     hard_sheets(&mut test, count as usize / 60);
+    way::test(&mut test);
     set_point::test(&mut test, count as usize);
     go_round::test(&mut test, count as usize);
     logs::test(&mut test, count as usize);

@@ -3,7 +3,7 @@
 //! changes is document 02's.
 
 use crate::partition::{reach, refine, NONE as BARRED};
-use std::collections::HashMap;
+use std::collections::{HashMap, HashSet, VecDeque};
 
 #[derive(Clone, Copy, PartialEq, Eq, Debug)]
 pub struct Refusal {
@@ -317,6 +317,26 @@ fn boxes(listed: &Listed, part: &[u32], block: &HashMap<u32, usize>) -> Vec<[(i6
     found.into_iter().map(|(ends, _)| ends).collect()
 }
 
+/// The way to each block: configurations are gone through as sequences lead to them, by length and then by action numbers, until each block has
+/// one. What a sequence leads to a second time leads to nothing sooner.
+fn ways(listed: &Listed, part: &[u32], start: usize, block: &HashMap<u32, usize>) -> Vec<Vec<u8>> {
+    let (mut found, mut left) = (vec![None; block.len()], block.len());
+    let (mut seen, mut queue) = (HashSet::from([start]), VecDeque::from([(start, Vec::new())]));
+    while let (Some((k, way)), 1..) = (queue.pop_front(), left) {
+        for (a, to) in listed.next[k * listed.sheet.actions..][..listed.sheet.actions].iter().enumerate() {
+            if *to != BARRED && seen.insert(*to as usize) {
+                queue.push_back((*to as usize, [&way[..], &[a as u8]].concat()));
+            }
+        }
+        let slot = &mut found[block[&part[k]]];
+        if slot.is_none() {
+            *slot = Some(way);
+            left -= 1;
+        }
+    }
+    found.into_iter().map(|way| way.expect("each block is reached")).collect()
+}
+
 fn write(listed: &Listed, part: &[u32], order: &[usize], block: &HashMap<u32, usize>) -> Made {
     let (sheet, actions) = (listed.sheet, listed.sheet.actions);
     let mut chart = b"BCH\x01\x00".to_vec();
@@ -349,8 +369,9 @@ pub fn check_landing(sheet: &Sheet) -> Result<(), Refusal> {
     list(sheet).map(|_| ())
 }
 
-/// Refusals 8 and 9, chart and box list, of a sheet that passed 1 to 7.
-pub fn make(sheet: &Sheet) -> Result<Made, Refusal> {
+/// Refusals 8 and 9, of a sheet that passed 1 to 7, and what is found by the part of each configuration, a configuration of each block, and the
+/// block of each part that has one.
+fn charted<T>(sheet: &Sheet, find: impl Fn(&Listed, &[u32], &[usize], &HashMap<u32, usize>) -> T) -> Result<T, Refusal> {
     let listed = list(sheet)?;
     let part = parts(&listed);
     let start = listed.number(&sheet.start).expect("the start is in a region");
@@ -358,7 +379,25 @@ pub fn make(sheet: &Sheet) -> Result<Made, Refusal> {
     if order.len() > 255 {
         return refuse(9, 0);
     }
-    Ok(write(&listed, &part, &order, &block))
+    Ok(find(&listed, &part, &order, &block))
+}
+
+/// Chart and box list.
+pub fn make(sheet: &Sheet) -> Result<Made, Refusal> {
+    charted(sheet, write)
+}
+
+/// The same, and the way to each block.
+pub fn make_with_ways(sheet: &Sheet) -> Result<(Made, Vec<Vec<u8>>), Refusal> {
+    charted(sheet, |listed, part, order, block| (write(listed, part, order, block), ways(listed, part, order[0], block)))
+}
+
+/// Where an action sequence leads from the start of an accepted sheet. A barred action changes nothing.
+pub fn end(sheet: &Sheet, actions: &[u8]) -> Configuration {
+    actions.iter().fold(sheet.start.clone(), |x, a| {
+        let region = sheet.regions.iter().find(|r| inside(r, &x)).expect("a region");
+        region.moves[*a as usize].1.as_ref().map_or(x.clone(), |m| landing(m, &x.1))
+    })
 }
 
 /// The reading of an action sequence from the start of an accepted sheet.

@@ -1,12 +1,12 @@
-//! What include/pilfstera.rs has of its own: the words of a refusal, the lengths and limits, and what a run, a set-point and a counter that goes
-//! round answer. Each is held to what the library answers, or to documents 01 and 02.
+//! What include/pilfstera.rs has of its own: the words of a refusal, the lengths and limits, and what a run, a way, a set-point and a counter that
+//! goes round answer. Each is held to what the library answers, or to documents 01 and 02.
 
 use crate::generate::{encode, one_counter, region};
 use crate::library::{
-    bound_size, chart_length, check_sheet, go_round, list_length, make, run_chart, run_room, run_sheet, set_point, Refusal, Run,
-    SetPoint, CARRY, LEAST_MODULUS, LONGEST_CHART, LONGEST_LIST, LONGEST_SEQUENCE, LONGEST_SHEET, MOST_ACTIONS, MOST_BLOCKS,
-    MOST_COUNTERS, MOST_FACTOR, MOST_INCREMENTS, MOST_MODULUS, MOST_OFFSET, MOST_REGIONS, MOST_VALUE, SET, SKIPPED,
-    VERSION_1_LONGEST_LIST, VERSION_1_LONGEST_SHEET,
+    bound_size, chart_length, check_sheet, go_round, list_length, make, run_chart, run_room, run_sheet, set_point, way, way_room,
+    Refusal, Run, SetPoint, CARRY, LEAST_MODULUS, LONGEST_CHART, LONGEST_LIST, LONGEST_SEQUENCE, LONGEST_SHEET, LONGEST_WAY,
+    MOST_ACTIONS, MOST_BLOCKS, MOST_COUNTERS, MOST_FACTOR, MOST_INCREMENTS, MOST_MODULUS, MOST_OFFSET, MOST_REGIONS, MOST_VALUE,
+    SET, SKIPPED, VERSION_1_LONGEST_LIST, VERSION_1_LONGEST_SHEET,
 };
 use crate::same;
 use crate::sheets::{self, Move, Rule, Sheet};
@@ -17,9 +17,9 @@ fn refused<T>(number: u8, returned: usize) -> Result<T, Refusal> {
     Err(Refusal { number, returned })
 }
 
-/// Each refusal's number, and what its words must say of the reason and of the number returned, from document 01's table and, for 19 and 22,
+/// Each refusal's number, and what its words must say of the reason and of the number returned, from document 01's table and, for 15, 19 and 22,
 /// document 02. No refusal has another number.
-const WORDS: [(u8, &str, &str); 16] = [
+const WORDS: [(u8, &str, &str); 17] = [
     (1, "shorter than its header, or its mark or version", "no place"),
     (2, "count is outside its limits", "first such count stands there"),
     (3, "length differs from what the counts give, or is above 4,096 actions", "that is the actual length"),
@@ -34,6 +34,7 @@ const WORDS: [(u8, &str, &str); 16] = [
     (12, "not numbered as first named", "target or record"),
     (13, "one label bar different actions", "later record stands there"),
     (14, "told apart by no sequence", "later record stands there"),
+    (15, "no block of this number", "that is the number of blocks"),
     (19, "no carry with allowed factor and offset, or the wanted value is beyond its bounds", "no place"),
     (22, "modulus, the number of increments, the start, an increment or the wanted value is outside its limits", "no place"),
 ];
@@ -75,6 +76,8 @@ pub fn lengths(bytes: &[u8], sheet: &Sheet, blocks: usize) {
     let (chart, list) = (chart_length(blocks, sheet.actions), list_length(sheet.version, blocks, sheet.counters));
     same("chart_length", bytes, make(bytes, &mut [], &mut []), refused(10, chart));
     same("list_length", bytes, make(bytes, &mut vec![0; chart], &mut []), refused(10, list));
+    let block_0 = if blocks == 1 { Ok(0) } else { refused(10, way_room(blocks)) };
+    same("way_room", bytes, way(bytes, 0, &mut []), block_0);
 }
 
 /// 32 regions along the first of 3 counters and 8 actions, the first of which adds one up to 254. The last region has the last value alone,
@@ -111,6 +114,7 @@ fn limits(version: u8) {
     lengths(&bytes, &sheet, MOST_BLOCKS);
     counts(&bytes, version);
     sequences(&bytes);
+    ways(&bytes);
 }
 
 /// The longest sheet's counts, and the most blocks.
@@ -126,6 +130,21 @@ fn counts(bytes: &[u8], version: u8) {
     let made = |blocks| make(&counted(blocks), &mut [0; LONGEST_CHART], &mut [0; LONGEST_LIST]);
     same("MOST_BLOCKS", &counted(MOST_BLOCKS), made(MOST_BLOCKS), Ok(MOST_BLOCKS));
     same("a block more", &counted(MOST_BLOCKS + 1), made(MOST_BLOCKS + 1), refused(9, 0));
+}
+
+/// The ways to the first and the last block of the longest sheet, which has one action that leads on, in the room that is needed and one less.
+fn ways(bytes: &[u8]) {
+    let last = MOST_BLOCKS - 1;
+    same("way_room of the most blocks", bytes, way_room(MOST_BLOCKS), LONGEST_WAY);
+    for (block, length) in [(0, 0), (last, LONGEST_WAY)] {
+        let mut actions = [9; LONGEST_WAY];
+        same("a way in a buffer one byte short", bytes, way(bytes, block, &mut actions[1..]), refused(10, LONGEST_WAY));
+        same("a way in a buffer that suffices", bytes, way(bytes, block, &mut actions), Ok(length));
+        same("its actions", bytes, actions.iter().filter(|a| **a == 0).count(), length);
+    }
+    for block in [MOST_BLOCKS, usize::MAX] {
+        same("a way to no block", bytes, way(bytes, block, &mut []), refused(15, MOST_BLOCKS));
+    }
 }
 
 /// Runs on the longest sheet, of the longest sequence and one more.

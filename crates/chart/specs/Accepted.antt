@@ -253,6 +253,18 @@ form-passes c f =
     length-right : (c : List ℕ) → Shaped c → Fine ≡ lengthCheck c
     length-right c s = length-good c (s .length-right ∙ sym (record-start c (blocksOf c)))
 
+-- the chart rules speak of the header too
+pub rules-shaped : (c : List ℕ) → ChartRules c → Shaped c
+rules-shaped c r =
+    record {
+      header = omega (arith, r .length-right ∙ sym (record-start c (blocksOf c)));
+      actions-some = r .actions-some;
+      actions-few = r .actions-few;
+      blocks-some = r .blocks-some;
+      blocks-few = r .blocks-few;
+      length-right = r .length-right;
+    }
+
 -- Accepted exactly where the chart rules hold.
 pub accepted : (c : List ℕ) → (chartCheck c ≡ Fine) ↔ ChartRules c
 unfolding chartCheck
@@ -277,20 +289,9 @@ accepted c = (λ e. rules (then-fine (formCheck c) (classesCheck c) e), back)
           told-apart = classes-right c (s .blocks-few) (f .targets) .0 (p .1);
         }
 
-    shape : ChartRules c → Shaped c
-    shape r =
-        record {
-          header = omega (arith, r .length-right ∙ sym (record-start c (blocksOf c)));
-          actions-some = r .actions-some;
-          actions-few = r .actions-few;
-          blocks-some = r .blocks-some;
-          blocks-few = r .blocks-few;
-          length-right = r .length-right;
-        }
-
     back : ChartRules c → andThen (formCheck c) (classesCheck c) ≡ Fine
     back r =
-        let s = shape r in
+        let s = rules-shaped c r in
         let f : Formed c =
         record {
           mark = mark-take c (s .header) .1 (r .mark);

@@ -126,7 +126,7 @@ bounds-held s B =
     each-listed {P = RangeHeld (boundSize s)} (rangeAt s i) (countersOf s) (λ v k. range-held s i v B))
 
 -- the list's buffer holds the classes of the blocks
-box-written : (s chart list : List ℕ) (n : ℕ) → Bytes s → made s chart list ≡ Done n → (i : ℕ) → i < n
+pub box-written : (s chart list : List ℕ) (n : ℕ) → Bytes s → made s chart list ≡ Done n → (i : ℕ) → i < n
     → listedBox (boundSize s) (countersOf s) (listLeft s chart list) i ≡ classOf (decode s) (blockAt (decode s) i)
 unfolding writtenBy overwrite decode
 box-written s chart list n B e i h =

@@ -11,9 +11,10 @@ use lib.Dec.{T, leb, ltb, leb→le, le→leb, ltb→lt, lt→ltb}
 use lib.ListN.{length, getD, take, replicate, length-append, length-replicate, List·getD-eq-default}
 use lib.Seq.{take-at}
 use Rattle.systems.specs.Laws.{both, all-true, is-true, true-is}
+use Rattle.systems.specs.Words.{Before}
 use Rattle.congruence.specs.declared.Solved.{Solved}
 use Rattle.congruence.specs.declared.Solved.the-variants.{Done, None, Refused}
-use Rattle.congruence.specs.Congruence.{between, allBelow, allowed, eight, told, given, firstSolution, goRound, countsLeft, divisor, Solution, Before, Asked, Answers}
+use Rattle.congruence.specs.Congruence.{between, allBelow, allowed, eight, told, given, firstSolution, goRound, countsLeft, divisor, Solution, Asked, Answers}
 use Rattle.congruence.specs.Theorems.{IsFirst, first-first, some-alike, alike-some, none-apart}
 
 between-limits : (low high x : ℕ) → T (between low high x) ↔ ((low ≤ x) × (x ≤ high))

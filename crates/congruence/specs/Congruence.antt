@@ -2,14 +2,14 @@
 -- In the field's terms: the first solution, in dictionary order (lexicographic), of a linear congruence. Definitions only. A list of counts has
 -- one for each increment, in the order of the increments.
 use mathlib.Core.Path.{_≡_}
-use mathlib.Core.Bool.{Bool, true, false, cond, _&&_}
+use mathlib.Core.Bool.{Bool, cond, _&&_}
 use mathlib.Core.Option.{Option, none, some}
-use mathlib.Core.List.{List, [], _∷_, _++_, map}
-use Prim.Native.Nat.{ℕ, zero, suc, _+_, _-_, _*_, _%_, _≤_, _<_}
+use mathlib.Core.List.{List, [], _∷_, _++_}
+use Prim.Native.Nat.{ℕ, _+_, _-_, _*_, _%_, _≤_, _<_}
 use lib.Dec.{eqb, leb, ltb}
 use lib.ListN.{length, getD, take, replicate}
 use Rattle.systems.specs.Search.{all, least}
-use Rattle.systems.specs.Lists.{collect}
+use Rattle.systems.specs.Words.{listsBelow, firstThat, Before}
 use Rattle.congruence.specs.declared.Solved.{Solved}
 use Rattle.congruence.specs.declared.Solved.the-variants.{Done, None, Refused}
 
@@ -27,19 +27,9 @@ total (a ∷ xs) (c ∷ cs) = c * a + total xs cs
 abbrev pub leads : ℕ → ℕ → ℕ → List ℕ → List ℕ → Bool
 leads m s w xs cs = congruent m (s + total xs cs) w
 
--- all lists of k counts below m, in dictionary order: first those that begin with 0, then those that begin with 1, ..
-unfoldable pub countLists : ℕ → ℕ → List (List ℕ)
-countLists m zero = [] ∷ []
-countLists m (suc k) = collect (λ c. map (λ cs. c ∷ cs) (countLists m k)) m
-
--- the first element of a list that passes a test
-unfoldable pub firstThat : {A : Type 0} → (A → Bool) → List A → Option A
-firstThat p [] = none
-firstThat p (x ∷ xs) = elim (p x) [ true ↦ some x | false ↦ firstThat p xs ]
-
--- Of all solutions the first in dictionary order: all lists of counts are tried in that order.
+-- Of all solutions the first in dictionary order: all lists of counts below m, one for each increment, are tried in that order.
 unfoldable pub firstSolution : ℕ → ℕ → ℕ → List ℕ → Option (List ℕ)
-firstSolution m s w xs = firstThat (leads m s w xs) (countLists m (length xs))
+firstSolution m s w xs = firstThat (leads m s w xs) (listsBelow m (length xs))
 
 -- a number from low to high
 abbrev pub between : ℕ → ℕ → ℕ → Bool
@@ -86,11 +76,6 @@ pub record Solution (m s w : ℕ) (xs cs : List ℕ) : Type 0 where
   pub one-each : length cs ≡ length xs
   pub below : (i : ℕ) → i < length xs → getD cs i 0 < m
   pub arrives : (s + total xs cs) % m ≡ w % m
-
--- dictionary order: the counts agree up to some increment, whose count is less
-pub data Before : List ℕ → List ℕ → Type 0 where
-  less : {c d : ℕ} {cs ds : List ℕ} → c < d → Before (c ∷ cs) (d ∷ ds)
-  later : {c : ℕ} {cs ds : List ℕ} → Before cs ds → Before (c ∷ cs) (c ∷ ds)
 
 -- what is answered, as a proposition: m from 2 to 65,536, one to eight increments, and these, the start and the wanted value from 0 to m - 1
 pub record Asked (m s w : ℕ) (xs : List ℕ) : Type 0 where

@@ -3,7 +3,6 @@ pub mod Modular
 pub mod Euclid
 pub mod Divisor
 pub mod Greedy
-pub mod Dictionary
 pub mod Theorems
 pub mod Answered
 pub mod Tails

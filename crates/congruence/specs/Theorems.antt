@@ -8,15 +8,16 @@ use native.Mathlib.Omega.{arith}
 use lib.Dec.{T}
 use lib.ListN.{length}
 use Rattle.systems.specs.Laws.{eqb-tells}
-use Rattle.congruence.specs.Congruence.{total, leads, firstSolution, divisor, Solution, Before}
+use Rattle.systems.specs.Words.{Before}
+use Rattle.systems.specs.Dictionary.{nil-first, before-cases, ordered, ListBelow, below-in, Found, found, nothing, search-lists}
+use Rattle.congruence.specs.Congruence.{total, leads, firstSolution, divisor, Solution}
 use Rattle.congruence.specs.Modular.{Same, same, same-sym, same-trans, same-add, same-sub, same-down, same-divides, divides-same, same-divided, mod-same, same-mod, minus-same, rounds-same}
 use Rattle.congruence.specs.Euclid.{bezout}
 use Rattle.congruence.specs.Divisor.{divisor-more, divisor-is, divisor-has, divisor-common, divisor-some, divisor-most, divisor-none, total-divided}
 use Rattle.congruence.specs.Greedy.{leastCount, remaining, greedy, IsCount, bezout-count, bezout-least}
-use Rattle.congruence.specs.Dictionary.{nil-first, before-cases, ordered, Counts, counts-in, Found, found, nothing, search-finds}
 
 -- what is found is a solution, and no solution is before it; where nothing is found there is none: of any numbers
-counts-solution : (m s w : ℕ) (xs cs : List ℕ) → (Counts m (length xs) cs × T (leads m s w xs cs)) ↔ Solution m s w xs cs
+counts-solution : (m s w : ℕ) (xs cs : List ℕ) → (ListBelow m (length xs) cs × T (leads m s w xs cs)) ↔ Solution m s w xs cs
 counts-solution m s w xs cs = (
   λ p. record { one-each = p .0 .long; below = p .0 .below; arrives = eqb-tells ((s + total xs cs) % m) (w % m) .0 (p .1) },
   λ S. (record { long = S .one-each; below = S .below }, eqb-tells ((s + total xs cs) % m) (w % m) .1 (S .arrives)),
@@ -29,9 +30,9 @@ pub record IsFirst (m s w : ℕ) (xs cs : List ℕ) : Type 0 where
 
 pub first-first : (m s w : ℕ) (xs cs : List ℕ) → firstSolution m s w xs ≡ some cs → IsFirst m s w xs cs
 unfolding firstSolution
-first-first m s w xs cs e = go (subst (Found (Counts m (length xs)) (leads m s w xs)) e (search-finds m (length xs) (leads m s w xs)))
+first-first m s w xs cs e = go (subst (Found Before (ListBelow m (length xs)) (leads m s w xs)) e (search-lists m (length xs) (leads m s w xs)))
   where
-    go : Found (Counts m (length xs)) (leads m s w xs) (some cs) → IsFirst m s w xs cs
+    go : Found Before (ListBelow m (length xs)) (leads m s w xs) (some cs) → IsFirst m s w xs cs
     go (found C t f) = record {
       solution = counts-solution m s w xs cs .0 (C, t);
       first = λ ds S. let (D, u) = counts-solution m s w xs ds .1 S in f ds D u;
@@ -39,9 +40,9 @@ first-first m s w xs cs e = go (subst (Found (Counts m (length xs)) (leads m s w
 
 pub none-solves : (m s w : ℕ) (xs : List ℕ) → firstSolution m s w xs ≡ none → (cs : List ℕ) → Solution m s w xs cs → ⊥
 unfolding firstSolution
-none-solves m s w xs e cs S = go (subst (Found (Counts m (length xs)) (leads m s w xs)) e (search-finds m (length xs) (leads m s w xs)))
+none-solves m s w xs e cs S = go (subst (Found Before (ListBelow m (length xs)) (leads m s w xs)) e (search-lists m (length xs) (leads m s w xs)))
   where
-    go : Found (Counts m (length xs)) (leads m s w xs) none → ⊥
+    go : Found Before (ListBelow m (length xs)) (leads m s w xs) none → ⊥
     go (nothing f) = let (C, t) = counts-solution m s w xs cs .1 S in f cs C t
 
 -- the first of all solutions is one alone
@@ -89,7 +90,7 @@ module _ (m a r : ℕ) (xs : List ℕ) (l : 0 < m) (h : divisor m (a ∷ xs) ∣
       same-divided (same-sub e (least-count .leaves))
 
 -- it solves
-pub greedy-solves : (m : ℕ) (xs : List ℕ) (r : ℕ) → 0 < m → divisor m xs ∣ r → Counts m (length xs) (greedy m xs r) × Same m (total xs (greedy m xs r)) r
+pub greedy-solves : (m : ℕ) (xs : List ℕ) (r : ℕ) → 0 < m → divisor m xs ∣ r → ListBelow m (length xs) (greedy m xs r) × Same m (total xs (greedy m xs r)) r
 unfolding greedy total
 greedy-solves m [] r l h =
     (record { long = refl; below = λ i b. absurd (omega arith) }, same-sym (divides-same (subst (λ (g : ℕ). g ∣ r) (divisor-is l (divisor-none m)) h)))
@@ -97,7 +98,7 @@ greedy-solves m (a ∷ xs) r l h =
     let C = least-count m a r xs l h in
     let b = divisor-most l (divisor-has m xs l) in
     let (D, e) = greedy-solves m xs (remaining m a (leastCount (divisor m xs) a r) r) l (left-divided m a r xs l h) in
-    (counts-in (omega (arith, C .below)) D, same-trans (same-add (same refl) e) (same-trans (same (omega arith)) (rounds-same m r (leastCount (divisor m xs) a r * a) l)))
+    (below-in (omega (arith, C .below)) D, same-trans (same-add (same refl) e) (same-trans (same (omega arith)) (rounds-same m r (leastCount (divisor m xs) a r * a) l)))
 
 -- and no solution is before it
 pub greedy-first : (m : ℕ) (xs : List ℕ) (r : ℕ) (ds : List ℕ) → 0 < m → divisor m xs ∣ r → length ds ≡ length xs → Same m (total xs ds) r

@@ -13,6 +13,7 @@ pub mod ChartDepth
 pub mod Rounds
 pub mod ChartDepthLaws
 pub mod ChartRules
+pub mod ChartWords
 pub mod ChartEquality
 pub mod Composition
 pub mod Distinguishing

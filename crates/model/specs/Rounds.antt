@@ -1,5 +1,5 @@
 -- Rounds of refinement on a chart: what they tell after each round, when they settle, and sequences that tell blocks apart.
-use mathlib.Core.Path.{_≡_, refl, sym, subst, _∙_}
+use mathlib.Core.Path.{_≡_, refl, sym, ap, subst, _∙_}
 use mathlib.Core.Logic.{_↔_, _⊎_, inl, inr, ⊎-elim}
 use mathlib.Core.Bool.{Bool, false, not, _&&_}
 use mathlib.Core.List.{List, [], _∷_}
@@ -28,9 +28,12 @@ pub named-barred : (t : ℕ) → t ≡ 255 → blockNamed t ≡ none
 unfolding blockNamed
 named-barred t e = rw (eq-eqb t 255 e, blockNamed)
 
-pub named-block : (t : ℕ) → t < 255 → blockNamed t ≡ some t
+named-open : (t : ℕ) → (t ≡ 255 → ⊥) → blockNamed t ≡ some t
 unfolding blockNamed
-named-block t h = rw (ne-eqb t 255 (omega arith), blockNamed)
+named-open t n = rw (ne-eqb t 255 n, blockNamed)
+
+pub named-block : (t : ℕ) → t < 255 → blockNamed t ≡ some t
+named-block t h = named-open t (λ e. omega arith)
 
 -- the chart's step, for its actions and past them
 pub chartStep-in : (c : List ℕ) (a i : ℕ) → a < actionsOf c → chartStep c a i ≡ blockNamed (targetOf c i a)
@@ -40,6 +43,21 @@ chartStep-in c a i h = rw (lt-ltb a (actionsOf c) h, chartStep)
 pub chartStep-out : (c : List ℕ) (a i : ℕ) → actionsOf c ≤ a → chartStep c a i ≡ none
 unfolding chartStep
 chartStep-out c a i h = rw (le-ltb a (actionsOf c) h, chartStep)
+
+-- a step to a block is the byte of the target, and back
+pub step-target : (c : List ℕ) (a i k : ℕ) → chartStep c a i ≡ some k → (a < actionsOf c) × (targetOf c i a ≡ k)
+step-target c a i k e = go (decLt a (actionsOf c))
+  where
+    named : (t : ℕ) → blockNamed t ≡ some k → Dec (t ≡ 255) → t ≡ k
+    named t q (yes b) = let p = named-barred t b in let z : _≡_ {A = ℕ} 0 1 = cc in absurd (omega arith)
+    named t q (no b) = let p = named-open t b in cc
+
+    go : Dec (a < actionsOf c) → (a < actionsOf c) × (targetOf c i a ≡ k)
+    go (yes h) = (h, named (targetOf c i a) (sym (chartStep-in c a i h) ∙ e) (ℕ-discrete (targetOf c i a) 255))
+    go (no h) = let q = chartStep-out c a i (omega arith) in let z : _≡_ {A = ℕ} 0 1 = cc in absurd (omega arith)
+
+pub target-step : (c : List ℕ) (a i k : ℕ) → a < actionsOf c → targetOf c i a ≡ k → k < 255 → chartStep c a i ≡ some k
+target-step c a i k h e l = chartStep-in c a i h ∙ ap blockNamed e ∙ named-block k l
 
 -- the test of two targets, by what they are
 same-open : (f : ℕ → ℕ) (t u : ℕ) → t < 255 → u < 255 → sameTarget f t u ≡ eqb (f t) (f u)

@@ -12,6 +12,7 @@ use Rattle.answers.specs.declared.FirstBarred.the-variants.{Nothing, At}
 use Rattle.answers.specs.declared.Ran.{Ran}
 use Rattle.chart.specs.declared.Settled.{Settled}
 use Rattle.charting.specs.declared.Made.{Made}
+use Rattle.access_sequence.specs.declared.Access.{Access}
 use Rattle.model.specs.declared.Rule.{Rule}
 use Rattle.model.specs.declared.Rule.the-variants.{Set, Carry}
 use Rattle.set_point.specs.declared.SetPoint.{SetPoint}
@@ -62,6 +63,15 @@ makeNumber (Made.Refused n p) = n
 unfoldable pub makeReturned : Made → ℕ
 makeReturned (Made.Done n) = n
 makeReturned (Made.Refused n p) = p
+
+-- the way to a block: 0 and its length where it was found
+unfoldable pub wayNumber : Access → ℕ
+wayNumber (Access.Done l) = 0
+wayNumber (Access.Refused n p) = n
+
+unfoldable pub wayReturned : Access → ℕ
+wayReturned (Access.Done l) = l
+wayReturned (Access.Refused n p) = p
 
 -- a rule from a kind, as in a rule record, and its numbers: kind 1 is a carry, here from counter 0, and no other kind is
 unfoldable pub ruleFrom : ℕ → ℤ → ℤ → Rule

@@ -13,10 +13,12 @@ ghost use Rattle.chart.specs.Check.{chartCheck};
 ghost use Rattle.chart.specs.Depth.{chartDepth};
 ghost use Rattle.chart.specs.RunChart.{chartRan, chartLeft};
 ghost use Rattle.charting.specs.Making.{makeChecks, madeBy, writtenBy};
+ghost use Rattle.access_sequence.specs.Access.{wayChecks, wayTo, answeredBy};
 ghost use Rattle.set_point.specs.SetPoint.{setPoint};
 ghost use Rattle.congruence.specs.Congruence.{goRound, countsLeft};
 ghost use Rattle.logs.specs.Compare.{firstDifference, restOf, lent, partOf};
-ghost use Rattle.pilfstera.specs.Exports.{checkNumber, checkReturned, runNumber, runReturned, runBarred, depthNumber, depthReturned, makeNumber, makeReturned, barredIndex, ruleFrom, pointNumber, pointReturned, pointOld, pointRemainder, solvedNumber, solvedReturned};
+ghost use Rattle.pilfstera.specs.Exports.{checkNumber, checkReturned, runNumber, runReturned, runBarred, depthNumber, depthReturned, makeNumber, makeReturned, wayNumber, wayReturned, barredIndex, ruleFrom, pointNumber, pointReturned, pointOld, pointRemainder, solvedNumber, solvedReturned};
+use access_sequence::Access;
 use answers::Checked;
 use answers::FirstBarred;
 use answers::Ran;
@@ -112,6 +114,26 @@ fn told_made(made: Made, returned: &mut usize) -> u8
             0
         }
         Made::Refused {
+            number,
+            returned: value,
+        } => {
+            *returned = value;
+            number
+        }
+    }
+}
+
+// Stores how long a way is, or what its refusal returns, and gives its number.
+fn told_way(access: Access, returned: &mut usize) -> u8
+    ensures { λ r. ⌜ r ≡ wayNumber access ⌝ }
+    ensures { λ _. ⌜ now (returned .exit) ≡ wayReturned access ⌝ }
+{
+    match access {
+        Access::Done { length } => {
+            *returned = length;
+            0
+        }
+        Access::Refused {
             number,
             returned: value,
         } => {
@@ -265,6 +287,22 @@ pub extern "C" fn pilfstera_make(
 {
     let made = charting::make(sheet, chart, list);
     told_made(made, returned)
+}
+
+// The way to a block of a sheet's chart, from the front of a buffer.
+#[no_mangle]
+pub extern "C" fn pilfstera_way(
+    sheet: &[u8],
+    block: usize,
+    actions: &mut [u8],
+    returned: &mut usize,
+) -> u8
+    ensures { λ r. ⌜ r ≡ wayNumber (answeredBy (wayChecks (now (sheet .entry)) block (length (now (actions .entry)))) (wayTo (decode (now (sheet .entry))) block)) ⌝ }
+    ensures { λ _. ⌜ now (actions .exit) ≡ writtenBy (wayChecks (now (sheet .entry)) block (length (now (actions .entry)))) (wayTo (decode (now (sheet .entry))) block) (now (actions .entry)) ⌝ }
+    ensures { λ _. ⌜ now (returned .exit) ≡ wayReturned (answeredBy (wayChecks (now (sheet .entry)) block (length (now (actions .entry)))) (wayTo (decode (now (sheet .entry))) block)) ⌝ }
+{
+    let access = access_sequence::find(sheet, block, actions);
+    told_way(access, returned)
 }
 
 // The set-point of a rule, given by its kind and numbers, for a wanted value.

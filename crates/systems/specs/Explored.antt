@@ -3,7 +3,7 @@ use Prim.Native.Nat.{ℕ, zero, suc, _≤_, _<_, max}
 use native.Mathlib.Decide.{decLt, le-ind}
 use native.Mathlib.Omega.{arith}
 use mathlib.Core.Path.{_≡_, refl, sym, ap, subst, subst₂, _∙_}
-use mathlib.Core.Logic.{_↔_, ⊎-elim}
+use mathlib.Core.Logic.{_↔_, _⊎_, ⊎-elim}
 use mathlib.Core.Bool.{Bool, false}
 use mathlib.Core.List.{List, [], _∷_, _++_}
 use mathlib.Core.Option.{Option, some, none, Option·map}
@@ -15,7 +15,7 @@ use Rattle.systems.specs.Exploration.{place, known, added, visited, visi
 use Rattle.systems.specs.Laws.{told, true-is, not-true}
 use Rattle.systems.specs.Alike.{both-left, alike-next}
 use Rattle.systems.specs.Pigeonhole.{pigeonhole, choose}
-use Rattle.systems.specs.Places.{at-in, at-out, Prefix, prefix-refl, prefix-trans, prefix-at, each-snoc, place-le, known-place, place-new, known-in, known-at}
+use Rattle.systems.specs.Places.{at-in, at-out, Prefix, prefix-refl, prefix-trans, prefix-length, prefix-at, each-snoc, place-le, known-place, place-new, known-in, known-at}
 use Rattle.systems.specs.Places.{prefix-known, prefix-place, added-old, added-new, added-prefix, added-known, added-place}
 
 -- What an exploration rests on: the test tells equivalence on a set of configurations that holds the start and that no step leaves,
@@ -285,6 +285,25 @@ module _ {X : Type 0} (s : System X) (same : X → X → Bool) (actions : ℕ) (
       prefix-trans
       (visited-le (explore s same actions start i) (getD (explore s same actions start i) i start) (suc a) actions c)
       (subst (λ (m : List X). Prefix m (explore s same actions start n)) (explore-visits i (present n i (omega arith) b)) (explore-prefix (suc i) n h))
+
+  -- what is looked at later, by member and then by action, finds no fewer
+  pub seen-later : (n i a j b : ℕ) → i ≤ n → i < length (explore s same actions start n) → a < actions → (i < j) ⊎ ((i ≡ j) × (a < b))
+      → length (seen s same actions start i (suc a)) ≤ length (seen s same actions start j b)
+  unfolding seen
+  seen-later n i a j b h l c =
+      ⊎-elim
+      (λ d.
+      prefix-length
+      (prefix-trans
+      (visited-le (explore s same actions start i) (getD (explore s same actions start i) i start) (suc a) actions c)
+      (prefix-trans
+      (subst (λ (m : List X). Prefix m (explore s same actions start j)) (explore-visits i (present n i h l)) (explore-prefix (suc i) j d))
+      (visited-prefix (explore s same actions start j) (getD (explore s same actions start j) j start) b))))
+      (λ d.
+      subst
+      (λ (k : ℕ). length (seen s same actions start i (suc a)) ≤ length (seen s same actions start k b))
+      (d .0)
+      (prefix-length (visited-le (explore s same actions start i) (getD (explore s same actions start i) i start) (suc a) b (d .1))))
 
   -- an action's target has the place that it had when the action was looked at, and was known then or is the next number
   step-seen : (n i a : ℕ) (y : X) → i < n → i < length (explore s same actions start n) → s .step a (getD (explore s same actions start n) i start) ≡ some y

@@ -1,8 +1,10 @@
 pub mod Search
 pub mod Lists
 pub mod System
+pub mod Words
 pub mod Exploration
 pub mod Laws
+pub mod Dictionary
 pub mod Alike
 pub mod Entries
 pub mod Former
@@ -13,3 +15,4 @@ pub mod Places
 pub mod Explored
 pub mod LockStep
 pub mod Quotient
+pub mod FirstWords

@@ -1,5 +1,5 @@
--- The worked examples of document 01, and some of document 02 (version 2 of U4, depths of U6, counts of U13), computed on the definitions: a row for
--- each, one test over the table, one proof.
+-- The worked examples of document 01, and some of document 02 (ways of U1, version 2 of U4, depths of U6, counts of U13), computed on the definitions: a
+-- row for each, one test over the table, one proof.
 use mathlib.Core.Bool.{Bool, true, false, _&&_}
 use mathlib.Core.List.{List, [], _∷_}
 use mathlib.Core.Option.{Option, some, none}
@@ -17,6 +17,7 @@ use Rattle.systems.specs.Search.{run, count, least}
 use Rattle.systems.specs.Counting as counting
 use Rattle.systems.specs.Lists.{collect}
 use Rattle.systems.specs.System.{after, entry, written, earliest, firstBarred, reading}
+use Rattle.systems.specs.Words.{ended, listsBelow, shorterLists, firstThat}
 use Rattle.systems.specs.Exploration.{place, known, added, visited, visitedAt, visitedNext, explore}
 use Rattle.answers.specs.declared.Checked.{Checked}
 use Rattle.answers.specs.declared.Checked.the-variants.{Fine, Refused}
@@ -30,7 +31,8 @@ use Rattle.model.specs.Listing.{numbers, numbersIn, prefixed, valuesIn, members
 use Rattle.sheet_bytes.specs.Layout.{versionOf, wide, boundSize, offsetLimit, moveSize, regionSize, startPlace, startValue, regionPlace, labelAt, stateAt, lowPlace, highPlace, movePlace, rulePlace, factorOf, offsetOf}
 use Rattle.sheet_bytes.specs.Decode.{ruleOf, moveOf, rangeAt, boxAt, moveAt, regionAt, startOf, decode}
 use Rattle.sheet_form.specs.Form.{sameBytes, checkHeader, checkCounts, checkLength, checkValue, checkBound, checkRule, checkZeroRule, checkMove, checkFields, checkLimits}
-use Rattle.congruence.specs.Congruence.{total, countLists, firstThat, firstSolution, allBelow, allowed, eight, given, countsLeft}
+use Rattle.congruence.specs.Congruence.{total, firstSolution, allBelow, allowed, eight, given, countsLeft}
+use Rattle.access_sequence.specs.Access.{leadsInto, orEmpty, wayTo}
 use Rattle.sheet.specs.Check.{checkLabel, overlap, checkOverlap, checkStart, every, lands, checkLanding, sheetCheck}
 
 -- one example: what is computed, and what document 01 says it is
@@ -49,6 +51,8 @@ pub data Row : Type 0 where
   reading-row : Sheet → List ℕ → List ℕ → Option ℕ → Row
   -- a chart's settling depth, and the greatest that its blocks and labels allow
   depth-row : List ℕ → ℕ → ℕ → Row
+  -- a sheet, a block of its chart, and the way to it
+  way-row : Sheet → ℕ → List ℕ → Row
   -- a counter that goes round: modulus, start, wanted value and increments, and the eight counts, or no list where they are left as they were
   counts-row : ℕ → ℕ → ℕ → List ℕ → List ℕ → Row
 
@@ -81,6 +85,7 @@ test (refused-row s n p) = sameChecked (sheetCheck s) (Refused n p)
 test (boxes-row n s l) = sameList (boxListOf n s) l
 test (reading-row s w l b) = sameList (sheetReading s w .entries) l && sameOption (sheetReading s w .barred) b
 test (depth-row c d n) = eqb (depthOf c) d && eqb (depthLimit c) n
+test (way-row s k w) = sameList (wayTo s k) w
 test (counts-row m s w xs l) = sameList (countsLeft m s w xs []) l
 
 -- every row passes
@@ -91,6 +96,10 @@ passes (r ∷ l) = test r && passes l
 -- sheets of one counter, one action and one state: each region has a label, bounds and a move
 pub region : ℕ → ℤ → ℤ → Move → Region
 region label low high move = record { label = label; box = record { state = 0; ranges = (record { low = low; high = high }) ∷ [] }; moves = move ∷ [] }
+
+-- the same with a move for each of two actions
+pub twoMoves : ℕ → ℤ → ℤ → Move → Move → Region
+twoMoves label low high move other = record { label = label; box = region label low high move .box; moves = move ∷ other ∷ [] }
 
 pub carry : ℤ → ℤ → Move
 carry factor offset = Open 0 (Carry 0 factor offset ∷ [])
@@ -131,6 +140,19 @@ mirror = sheet (region 10 (negsuc 7) (pos 7) (carry (negsuc 0) (negsuc 0)) ∷ [
 pub doubling : Sheet
 doubling = sheet (region 10 (pos 0) (pos 1000) (carry (pos 2) (pos 0)) ∷ region 20 (pos 1001) (pos 2000) Barred ∷ []) (pos 0)
 
+-- a counter from 0 to 3, to which the first action adds 1 and the second 2, where that is not too much
+pub steps : Sheet
+steps =
+    record {
+      counters = 1;
+      actions = 2;
+      regions = twoMoves 10 (pos 0) (pos 1) (carry (pos 1) (pos 1)) (carry (pos 1) (pos 2))
+          ∷ twoMoves 20 (pos 2) (pos 2) (carry (pos 1) (pos 1)) Barred
+          ∷ twoMoves 30 (pos 3) (pos 3) Barred Barred
+          ∷ [];
+      start = record { state = 0; values = pos 0 ∷ [] };
+    }
+
 pub range : ℤ → ℤ → Range
 range low high = record { low = low; high = high }
 
@@ -158,6 +180,12 @@ table =
     ∷ boxes-row 2 doubling (0 ∷ 0 ∷ 0 ∷ 0 ∷ 0 ∷ [])
     -- P9, as U5 of document 02 has it
     ∷ reading-row first (0 ∷ 0 ∷ 0 ∷ []) (10 ∷ 10 ∷ 20 ∷ 65535 ∷ []) (some 2)
+    -- the ways to P1's blocks; to a block that one action reaches, though two of another would; and to one that 0, 1 and 1, 0 lead to
+    ∷ way-row first 0 []
+    ∷ way-row first 1 (0 ∷ [])
+    ∷ way-row first 2 (0 ∷ 0 ∷ [])
+    ∷ way-row steps 2 (1 ∷ [])
+    ∷ way-row steps 3 (0 ∷ 1 ∷ [])
     -- the depths of P1's chart, of P5's, and of the first with three labels
     ∷ depth-row (66 ∷ 67 ∷ 72 ∷ 1 ∷ 0 ∷ 1 ∷ 3 ∷ 10 ∷ 0 ∷ 1 ∷ 10 ∷ 0 ∷ 2 ∷ 20 ∷ 0 ∷ 255 ∷ []) 1 1
     ∷ depth-row (66 ∷ 67 ∷ 72 ∷ 1 ∷ 0 ∷ 1 ∷ 1 ∷ 10 ∷ 0 ∷ 0 ∷ []) 0 0
@@ -194,5 +222,5 @@ table =
     ∷ []
 
 pub worked-examples : T (passes table)
-unfolding passes test table sameZ sameList sameOption sameChecked bytes wideBytes changed region carry sheet first mirror doubling range smaller larger contains meet size floorBy floor ceiling inverse split bitsOf collect after entry written earliest firstBarred reading place known added visited visitedAt visitedNext explore within inBox placeIn regionNumber regionOf applied updated landing moved step sheetSystem sheetReading emptied cut cuts preimage narrowed classBox volume volumes configurations classOf sameClass blocks targetByte chartRecord chartOf rangeBytes boxRecord boxListOf joined unsignedAt signedOf signedAt vacant run andThen demand numbers numbersIn prefixed valuesIn members versionOf wide boundSize offsetLimit moveSize regionSize startPlace startValue regionPlace labelAt stateAt lowPlace highPlace movePlace rulePlace factorOf offsetOf ruleOf moveOf rangeAt boxAt moveAt regionAt startOf decode sameBytes checkHeader checkCounts checkLength checkValue checkBound checkRule checkZeroRule checkMove checkFields checkLimits checkLabel overlap checkOverlap checkStart every lands checkLanding sheetCheck count least counting.numbers counting.has counting.classes recordAt labelOf targetOf sameTarget refines roundClass parts depthOf labelCount depthLimit total countLists firstThat firstSolution allBelow allowed eight given countsLeft
+unfolding passes test table sameZ sameList sameOption sameChecked bytes wideBytes changed region twoMoves carry sheet first mirror doubling steps range smaller larger contains meet size floorBy floor ceiling inverse split bitsOf collect after entry written earliest firstBarred reading place known added visited visitedAt visitedNext explore within inBox placeIn regionNumber regionOf applied updated landing moved step sheetSystem sheetReading emptied cut cuts preimage narrowed classBox volume volumes configurations classOf sameClass blocks targetByte chartRecord chartOf rangeBytes boxRecord boxListOf joined unsignedAt signedOf signedAt vacant run andThen demand numbers numbersIn prefixed valuesIn members versionOf wide boundSize offsetLimit moveSize regionSize startPlace startValue regionPlace labelAt stateAt lowPlace highPlace movePlace rulePlace factorOf offsetOf ruleOf moveOf rangeAt boxAt moveAt regionAt startOf decode sameBytes checkHeader checkCounts checkLength checkValue checkBound checkRule checkZeroRule checkMove checkFields checkLimits checkLabel overlap checkOverlap checkStart every lands checkLanding sheetCheck count least counting.numbers counting.has counting.classes recordAt labelOf targetOf sameTarget refines roundClass parts depthOf labelCount depthLimit total listsBelow firstThat firstSolution allBelow allowed eight given countsLeft ended shorterLists leadsInto orEmpty wayTo
 worked-examples = tt

@@ -1,0 +1,4 @@
+pub mod Access
+pub mod Theorems
+pub mod Machine
+pub mod Answered
