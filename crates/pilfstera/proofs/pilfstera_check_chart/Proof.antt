@@ -1,5 +1,5 @@
 use mathlib.Core.Path.{ap, _∙_}
-use Rattle.pilfstera.specs.Exports.{checkNumber, checkReturned}
+use Rattle.c_answers.specs.Exports.{checkNumber, checkReturned}
 use borrow.Author.Needs.{needs}
 use Rattle.pilfstera.proofs.pilfstera_check_chart.Statement.{statement}
 use Rattle.pilfstera.proofs.pilfstera_check_chart.Tie as tie

@@ -1,5 +1,5 @@
 use mathlib.Core.Path.{ap, _∙_}
-use Rattle.pilfstera.specs.Exports.{depthNumber, depthReturned}
+use Rattle.c_answers.specs.Exports.{depthNumber, depthReturned}
 use borrow.Author.Needs.{needs}
 use Rattle.pilfstera.proofs.pilfstera_depth.Statement.{statement}
 use Rattle.pilfstera.proofs.pilfstera_depth.Tie as tie

@@ -1,5 +1,5 @@
 use mathlib.Core.Path.{ap, _∙_}
-use Rattle.pilfstera.specs.Exports.{solvedNumber, solvedReturned}
+use Rattle.c_answers.specs.Exports.{solvedNumber, solvedReturned}
 use borrow.Author.Needs.{needs}
 use Rattle.pilfstera.proofs.pilfstera_go_round.Statement.{statement}
 use Rattle.pilfstera.proofs.pilfstera_go_round.Tie as tie

@@ -1,5 +1,5 @@
 use mathlib.Core.Path.{ap, _∙_}
-use Rattle.pilfstera.specs.Exports.{makeNumber, makeReturned}
+use Rattle.c_answers.specs.Exports.{makeNumber, makeReturned}
 use borrow.Author.Needs.{needs}
 use Rattle.pilfstera.proofs.pilfstera_make.Statement.{statement}
 use Rattle.pilfstera.proofs.pilfstera_make.Tie as tie

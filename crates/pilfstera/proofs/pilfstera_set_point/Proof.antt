@@ -4,7 +4,7 @@ use mathlib.Core.Path.{ap, _∙_}
 use Rattle.model.specs.declared.Rule.{Rule}
 use Rattle.set_point.specs.declared.SetPoint.{SetPoint}
 use Rattle.set_point.specs.SetPoint.{setPoint}
-use Rattle.pilfstera.specs.Exports.{pointNumber, pointReturned, pointOld, pointRemainder}
+use Rattle.c_answers.specs.Exports.{pointNumber, pointReturned, pointOld, pointRemainder}
 use borrow.Author.Needs.{needs}
 use Rattle.pilfstera.proofs.pilfstera_set_point.Statement.{statement}
 use Rattle.pilfstera.proofs.pilfstera_set_point.Tie as tie

@@ -1,5 +1,5 @@
 use mathlib.Core.Path.{ap, _∙_}
-use Rattle.pilfstera.specs.Exports.{wayNumber, wayReturned}
+use Rattle.c_answers.specs.Exports.{wayNumber, wayReturned}
 use borrow.Author.Needs.{needs}
 use Rattle.pilfstera.proofs.pilfstera_way.Statement.{statement}
 use Rattle.pilfstera.proofs.pilfstera_way.Tie as tie

@@ -3,10 +3,10 @@ use mir.Syntax.{w64}
 use mir.Val.{SFits}
 use mir.ValLaws.{toZ-ofZ}
 use Rattle.set_point.specs.declared.SetPoint.{SetPoint}
-use Rattle.pilfstera.specs.Exports.{pointNumber, pointReturned, pointOld, pointRemainder}
+use Rattle.c_answers.specs.Exports.{pointNumber, pointReturned, pointOld, pointRemainder}
 use borrow.Author.Needs.{needs}
-use Rattle.pilfstera.proofs.told_point.Statement.{statement}
-use Rattle.pilfstera.proofs.told_point.Tie as tie
+use Rattle.c_answers.proofs.told_point.Statement.{statement}
+use Rattle.c_answers.proofs.told_point.Tie as tie
 
 enum-known-point : tie.Need-enum-known-point
 enum-known-point c = search needs

@@ -2,9 +2,9 @@ use mathlib.Core.Path.{_≡_}
 use native.Mathlib.Omega.{arith}
 use mir.Syntax.{w64}
 use mir.ValLaws.{toZ-ofZ}
-use Rattle.pilfstera.specs.Exports.{from-carry, from-other}
-use Rattle.pilfstera.proofs.rule_from.Statement.{statement}
-use Rattle.pilfstera.proofs.rule_from.Tie as tie
+use Rattle.c_answers.specs.Exports.{from-carry, from-other}
+use Rattle.c_answers.proofs.rule_from.Statement.{statement}
+use Rattle.c_answers.proofs.rule_from.Tie as tie
 
 returns : tie.Need-returns
 returns c =

@@ -1,8 +1,8 @@
 use mathlib.Core.Path.{sym, ap}
-use Rattle.pilfstera.specs.Exports.{makeNumber, makeReturned}
+use Rattle.c_answers.specs.Exports.{makeNumber, makeReturned}
 use borrow.Author.Needs.{needs}
-use Rattle.pilfstera.proofs.told_made.Statement.{statement}
-use Rattle.pilfstera.proofs.told_made.Tie as tie
+use Rattle.c_answers.proofs.told_made.Statement.{statement}
+use Rattle.c_answers.proofs.told_made.Tie as tie
 
 enum-known-made : tie.Need-enum-known-made
 enum-known-made c = search needs

@@ -1,9 +1,9 @@
 use mathlib.Core.Path.{sym, ap}
 use Rattle.answers.specs.declared.FirstBarred.{FirstBarred}
-use Rattle.pilfstera.specs.Exports.{barredIndex}
+use Rattle.c_answers.specs.Exports.{barredIndex}
 use borrow.Author.Needs.{needs}
-use Rattle.pilfstera.proofs.barred_index.Statement.{statement}
-use Rattle.pilfstera.proofs.barred_index.Tie as tie
+use Rattle.c_answers.proofs.barred_index.Statement.{statement}
+use Rattle.c_answers.proofs.barred_index.Tie as tie
 
 enum-told : tie.Need-enum-told
 enum-told c = search needs

@@ -1,8 +1,8 @@
 use mathlib.Core.Path.{sym, ap}
-use Rattle.pilfstera.specs.Exports.{depthNumber, depthReturned}
+use Rattle.c_answers.specs.Exports.{depthNumber, depthReturned}
 use borrow.Author.Needs.{needs}
-use Rattle.pilfstera.proofs.told_depth.Statement.{statement}
-use Rattle.pilfstera.proofs.told_depth.Tie as tie
+use Rattle.c_answers.proofs.told_depth.Statement.{statement}
+use Rattle.c_answers.proofs.told_depth.Tie as tie
 
 enum-known-depth : tie.Need-enum-known-depth
 enum-known-depth c = search needs

@@ -1,8 +1,8 @@
 use mathlib.Core.Path.{sym, ap}
-use Rattle.pilfstera.specs.Exports.{solvedNumber, solvedReturned}
+use Rattle.c_answers.specs.Exports.{solvedNumber, solvedReturned}
 use borrow.Author.Needs.{needs}
-use Rattle.pilfstera.proofs.told_solved.Statement.{statement}
-use Rattle.pilfstera.proofs.told_solved.Tie as tie
+use Rattle.c_answers.proofs.told_solved.Statement.{statement}
+use Rattle.c_answers.proofs.told_solved.Tie as tie
 
 enum-told : tie.Need-enum-told
 enum-told c = search needs

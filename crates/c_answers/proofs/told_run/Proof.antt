@@ -1,9 +1,9 @@
 use mathlib.Core.Path.{sym, ap, _∙_}
 use Rattle.answers.specs.declared.Ran.{Ran}
-use Rattle.pilfstera.specs.Exports.{runNumber, runReturned, runBarred}
+use Rattle.c_answers.specs.Exports.{runNumber, runReturned, runBarred}
 use borrow.Author.Needs.{needs}
-use Rattle.pilfstera.proofs.told_run.Statement.{statement}
-use Rattle.pilfstera.proofs.told_run.Tie as tie
+use Rattle.c_answers.proofs.told_run.Statement.{statement}
+use Rattle.c_answers.proofs.told_run.Tie as tie
 
 enum-known-ran : tie.Need-enum-known-ran
 enum-known-ran c = search needs

@@ -1,8 +1,8 @@
 use mathlib.Core.Path.{sym, ap}
-use Rattle.pilfstera.specs.Exports.{wayNumber, wayReturned}
+use Rattle.c_answers.specs.Exports.{wayNumber, wayReturned}
 use borrow.Author.Needs.{needs}
-use Rattle.pilfstera.proofs.told_way.Statement.{statement}
-use Rattle.pilfstera.proofs.told_way.Tie as tie
+use Rattle.c_answers.proofs.told_way.Statement.{statement}
+use Rattle.c_answers.proofs.told_way.Tie as tie
 
 enum-known-access : tie.Need-enum-known-access
 enum-known-access c = search needs
