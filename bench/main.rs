@@ -1,6 +1,6 @@
 //! Measures the static library against independent implementations in Rust, and prints two tables for making charts, two for ways to blocks, two for
-//! checking charts and for their depth, two for counters that go round, and two for comparing logs. Run by `bench/run`; with the name of a benchmark
-//! it runs that one alone.
+//! checking charts and for their depth, two for where two charts part, two for counters that go round, and two for comparing logs. Run by `bench/run`;
+//! with the name of a benchmark it runs that one alone.
 
 mod charts;
 mod checking;
@@ -9,6 +9,7 @@ mod inputs;
 mod logs;
 mod making;
 mod measure;
+mod parts;
 mod rounds;
 mod straightforward;
 mod ways;
@@ -48,9 +49,10 @@ fn named(name: &str, call: Option<(usize, usize)>) {
         "sheets" => run(making::benchmark(), call),
         "ways" => run(ways::benchmark(), call),
         "charts" => run(checking::benchmark(), call),
+        "parts" => run(parts::benchmark(), call),
         "go_round" => run(go_round::benchmark(), call),
         "logs" => run(logs::benchmark(), call),
-        _ => panic!("no benchmark {name}: sheets, ways, charts, go_round or logs"),
+        _ => panic!("no benchmark {name}: sheets, ways, charts, parts, go_round or logs"),
     }
 }
 
@@ -58,9 +60,9 @@ fn main() {
     let words: Vec<String> = std::env::args().skip(1).collect();
     let number = |word: &String| word.parse().expect("a number");
     match &words[..] {
-        [] => ["sheets", "ways", "charts", "go_round", "logs"].into_iter().for_each(|name| named(name, None)),
+        [] => ["sheets", "ways", "charts", "parts", "go_round", "logs"].into_iter().for_each(|name| named(name, None)),
         [name] => named(name, None),
         [name, input, version] => named(name, Some((number(input), number(version)))),
-        _ => panic!("usage: bench [sheets | ways | charts | go_round | logs]"),
+        _ => panic!("usage: bench [sheets | ways | charts | parts | go_round | logs]"),
     }
 }

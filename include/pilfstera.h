@@ -1,13 +1,13 @@
 /* Pilfstera for C and C++: link libpilfstera.a, which `rt staticlib pilfstera` writes into target/staticlib.
 
-   Each function returns 0 where it was done, else the number of the refusal, 1 to 15, 19 or 22, and stores a number through
+   Each function returns 0 where it was done, else the number of the refusal, 1 to 16, 19 or 22, and stores a number through
    `returned`: what its comment says where it was done, else what the table says. A refusal alters no buffer. The last two, which compare
    logs, are the exception: they refuse nothing and have no `returned`. Nothing is asked of what the buffers hold.
 
    A slice is a pointer and a length, in bytes or in entries of 16 or 64 bits. A pointer beside a length of 0 is not read, but is not
    null either. No two of the buffers and numbers that are written may overlap, and none of them a buffer that is read. The functions
-   allocate nothing and keep nothing from call to call, so threads may call them at once; making a chart, or finding the
-   way to a block, takes less than 64 KiB of stack.
+   allocate nothing and keep nothing from call to call, so threads may call them at once; making a chart, finding the
+   way to a block, or where two charts part, takes less than 64 KiB of stack.
 
    A sheet has version 1 or 2, which is its byte 3. Version 1 has bounds and start values of 16 bits, and offsets from -4,000,000 to
    4,000,000; version 2 has bounds and start values of 32 bits, from -1,000,000 to 1,000,000, and offsets from -200,000,000 to
@@ -26,19 +26,23 @@
      7      sheet              the start is in no region                                    8, place of the start state
      8      sheet              an open move that leads out of all regions                   place of the first such move record
      9      making, way        more than 255 blocks                                         0
-    10      making, run, way   a buffer too short; chart, then list                         length needed, in entries of the buffer
+    10      making, run, way,
+            two charts         a buffer too short; chart, then list                         length needed, in entries of the buffer
     11      run                an action that the sheet or chart lacks                      index of the first
     12      chart              blocks not numbered as first named                           place of the target or record
     13      chart              same label, other actions barred                             place of the later record
     14      chart              two blocks that no sequence tells apart                      place of the later record
     15      way                a block number not below the number of blocks                the number of blocks
+    16      two charts         different numbers of actions                                 5, place of the number of actions
     19      set-point          no carry rule with allowed factor and offset, or the
                                wanted value beyond its bounds                               0
     22      going round        modulus, number of increments, start, an increment or
                                the wanted value outside its limits                          0
 
    Places count bytes from 0. The first check that fails gives the refusal. Checks run in the order of their numbers, except that a
-   run checks its sheet or chart, then 3 for the sequence, 11, 10, and a way its sheet, then 9, 15, 10. */
+   run checks its sheet or chart, then 3 for the sequence, 11, 10, and a way its sheet, then 9, 15, 10. Of two charts the first is
+   checked, then the second, then come 16 and 10. What a refusal of the second chart returns, be it a place, a length or 0, is raised by
+   the first's length: so its places count on from the end of the first. Where the sum does not fit, it is SIZE_MAX. */
 #ifndef PILFSTERA_H
 #define PILFSTERA_H
 
@@ -72,6 +76,11 @@ enum { PILFSTERA_MOST_BLOCKS = 255, PILFSTERA_MOST_ACTIONS = 8, PILFSTERA_MOST_C
    for. */
 enum { PILFSTERA_WAY = 254 };
 #define PILFSTERA_WAY_ROOM(blocks) ((size_t)(blocks) - 1)
+
+/* Bytes of a buffer that suffices for where any two charts part, and those that the buffer needs for charts of so many blocks, also where
+   they are equal in behaviour. */
+enum { PILFSTERA_PART = 509 };
+#define PILFSTERA_PART_ROOM(first_blocks, second_blocks) ((size_t)(first_blocks) + (size_t)(second_blocks) - 1)
 
 /* What a run writes in the place of a label for an action that is barred. No label is this number: as one it is refused 4. */
 enum { PILFSTERA_SKIPPED = 65535 };
@@ -132,6 +141,20 @@ uint8_t pilfstera_run_chart(const uint8_t *chart, size_t length, const uint8_t *
    longer, and none has a barred action: a run of it on the sheet ends inside the box that record `block` of the box list holds. It takes
    about as long as making the chart. */
 uint8_t pilfstera_way(const uint8_t *sheet, size_t length, size_t block, uint8_t *actions, size_t room, size_t *returned);
+
+/* Where two charts part: refusals 1 to 4 and 12 to 14 of the first, then of the second, then 16 and 10. Says that the charts are equal in
+   behaviour, or writes the shortest action sequence whose readings differ, and of several the one that comes first in dictionary order by
+   action number, a byte for each action. A reading is what pilfstera_run_chart writes: the label of block 0, then for each action the label
+   where it leads, or PILFSTERA_SKIPPED where it is barred. So the last entries of the two readings differ, and no others. Each length is the
+   chart's own, not that of its buffer; the two may be one and the same chart.
+
+   `equal` is 1 where no sequence of whatever length reads differently on the two, and `returned` is 0 then. Else `equal` is 0 and `returned`
+   is the length of the sequence: 0 where the blocks 0 have different labels, which the empty sequence reads. Only so many bytes are written,
+   from the front, and what lies behind is left as it was. For N1 and N2 blocks `room` must be at least N1 + N2 - 1, also where the sequence
+   is shorter or the charts are equal; no sequence is longer. A refusal leaves `equal` as it was. Beside the checks of the two charts it takes
+   at most N1 + N2 - 1 looks at the actions of two blocks. */
+uint8_t pilfstera_part(const uint8_t *first, size_t first_length, const uint8_t *second, size_t second_length, uint8_t *actions,
+                       size_t room, size_t *returned, uint8_t *equal);
 
 /* The set-point of a rule, the old value that brings a counter to a wanted reading or just below it: refusal 19. A carry rule gives
    factor * x + offset for the old value x. `old` is the x and `remainder` the r with wanted - offset = factor * x + r and r from 0 to one

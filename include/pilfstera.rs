@@ -96,6 +96,15 @@ mod library {
         blocks - 1
     }
 
+    /// Bytes of a buffer that suffices for where any two charts part.
+    pub const LONGEST_PART: usize = 509;
+
+    /// Bytes that the buffer for where two charts part needs, by their numbers of blocks, also where they are equal in behaviour. A chart has
+    /// at least one.
+    pub const fn part_room(first_blocks: usize, second_blocks: usize) -> usize {
+        first_blocks + second_blocks - 1
+    }
+
     /// The kind of a rule that sets, as in a sheet's rule record: it gives one value whatever the old one was.
     pub const SET: u8 = 0;
 
@@ -123,10 +132,12 @@ mod library {
     /// Why a call was turned back. It altered no buffer. As text it says so in words.
     #[derive(Clone, Copy, PartialEq, Eq, Debug)]
     pub struct Refusal {
-        /// The refusal's number, 1 to 15, 19 or 22: the first check that failed.
+        /// The refusal's number, 1 to 16, 19 or 22: the first check that failed.
         pub number: u8,
         /// By number: 2, 4 to 8 and 12 to 14 the place in the sheet or chart, in bytes from 0; 3 the actual length, 10 the length needed,
-        /// 11 the index of the action, 15 the number of blocks; 1, 9, 19 and 22 nothing, and 0.
+        /// 11 the index of the action, 15 the number of blocks, 16 the place of a chart's number of actions, 5; 1, 9, 19 and 22 nothing, and
+        /// 0. Of the second of two charts, what 1 to 4 and 12 to 14 return is raised by the first's length, to [`usize::MAX`] at most, which
+        /// the words leave out.
         pub returned: usize,
     }
 
@@ -149,6 +160,7 @@ mod library {
                 13 => ("two blocks of one label bar different actions", "the later record stands there"),
                 14 => ("two blocks are told apart by no sequence", "the later record stands there"),
                 15 => ("the sheet's chart has no block of this number", "that is the number of blocks"),
+                16 => ("the two charts have different numbers of actions", "the number of actions stands there in each"),
                 19 => (
                     "the rule is no carry with allowed factor and offset, or the wanted value is beyond its bounds",
                     "no place is told",
@@ -237,6 +249,16 @@ mod library {
             actions: *mut u8,
             room: usize,
             returned: *mut usize,
+        ) -> u8;
+        pub(super) fn pilfstera_part(
+            first: *const u8,
+            first_length: usize,
+            second: *const u8,
+            second_length: usize,
+            actions: *mut u8,
+            room: usize,
+            returned: *mut usize,
+            equal: *mut u8,
         ) -> u8;
         pub(super) fn pilfstera_set_point(
             kind: u8,
@@ -382,6 +404,33 @@ mod library {
             pilfstera_way(sheet.as_ptr(), sheet.len(), block, actions.as_mut_ptr(), actions.len(), &mut returned)
         };
         answer(number, returned, returned)
+    }
+
+    /// Where two charts part: `None` where they are equal in behaviour, so that no sequence of whatever length reads differently on the two,
+    /// else the length of the shortest action sequence whose readings differ, and of several the one that comes first in dictionary order by
+    /// action number. It is written from the front of the buffer, a byte for each action, and what lies behind is left as it was. A reading is
+    /// what [`run_chart`] writes, with [`SKIPPED`] for a barred action; the last entries of the two readings differ, and no others. The length
+    /// is 0 where the blocks 0 have different labels, which the empty sequence reads. Each slice ends where its chart ends. It refuses what
+    /// [`check_chart`] does, of the first chart, then of the second, whose places count on from the end of the first; then 16 charts with
+    /// different numbers of actions, then 10 a buffer of fewer than [`part_room`] bytes, also where the sequence is shorter or the charts are
+    /// equal. No sequence is longer.
+    pub fn part(first: &[u8], second: &[u8], actions: &mut [u8]) -> Result<Option<usize>, Refusal> {
+        let (mut returned, mut equal) = (0, 0);
+        // SAFETY: three slices by pointer and length, and two numbers of our own to write. What is written is borrowed apart from all else,
+        // and nothing is asked of what the slices hold.
+        let number = unsafe {
+            pilfstera_part(
+                first.as_ptr(),
+                first.len(),
+                second.as_ptr(),
+                second.len(),
+                actions.as_mut_ptr(),
+                actions.len(),
+                &mut returned,
+                &mut equal,
+            )
+        };
+        answer(number, returned, (equal == 0).then_some(returned))
     }
 
     /// The set-point of a rule, the old value that brings a counter to a wanted reading or just below it: the one old value x and remainder

@@ -1,6 +1,7 @@
 //! Writes the lengths and limits of include/pilfstera.rs, taken in by `include!`, the refusal of an empty sheet without its words, the ways
-//! to two blocks of the sample sheet and the refusal of a third, the depth of the sample chart, the set-points of a carry rule and of a set
-//! rule, the counts of a counter that goes round, none and its refusal, and what is told of two logs.
+//! to two blocks of the sample sheet and the refusal of a third, the depth of the sample chart, where it parts from another, from itself and
+//! from none, the set-points of a carry rule and of a set rule, the counts of a counter that goes round, none and its refusal, and what is
+//! told of two logs.
 
 mod pilfstera {
     include!("../../include/pilfstera.rs");
@@ -18,6 +19,7 @@ fn main() {
     println!("{MOST_BLOCKS} {MOST_ACTIONS} {MOST_COUNTERS} {MOST_REGIONS}");
     println!("{} {} {} {}", chart.len(), narrow.len(), wide.len(), entries.len());
     println!("{LONGEST_WAY} {}", [0u8; way_room(MOST_BLOCKS)].len());
+    println!("{LONGEST_PART} {}", [0u8; part_room(MOST_BLOCKS, MOST_BLOCKS)].len());
     println!("{} {}", bound_size(1), bound_size(2));
     println!("{}", entries[0]);
     println!("{SET} {CARRY} {MOST_FACTOR} {MOST_OFFSET} {MOST_VALUE}");
@@ -37,8 +39,20 @@ fn main() {
     if let Err(Refusal { number, returned }) = way(&sheet, usize::MAX, &mut []) {
         println!("refused {number} at {returned}");
     }
-    if let Ok(depth) = depth(b"BCH\x01\x00\x01\x03\x0A\x00\x01\x0A\x00\x02\x14\x00\xFF") {
+    let sample = b"BCH\x01\x00\x01\x03\x0A\x00\x01\x0A\x00\x02\x14\x00\xFF";
+    if let Ok(depth) = depth(sample) {
         println!("depth {depth}");
+    }
+    let another = b"BCH\x01\x00\x01\x03\x0A\x00\x01\x0A\x00\x02\x1E\x00\xFF";
+    let mut actions = [9; part_room(3, 3)];
+    if let Ok(Some(length)) = part(sample, another, &mut actions) {
+        println!("part after {length}: {} {}", actions[0], actions[1]);
+    }
+    if let Ok(None) = part(sample, sample, &mut actions) {
+        println!("equal, 0");
+    }
+    if let Err(Refusal { number, returned }) = part(sample, &[], &mut []) {
+        println!("refused {number} at {returned}");
     }
     if let Ok(SetPoint { old, remainder }) = set_point(CARRY, 3, 5, 16) {
         println!("old value {old}, remainder {remainder}");

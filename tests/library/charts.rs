@@ -83,7 +83,7 @@ fn bars(record: &Record) -> Vec<bool> {
 }
 
 /// What a reading has for an action at a block, and the block where it goes on.
-fn act(chart: &Chart, block: usize, action: usize) -> (u16, usize) {
+pub fn act(chart: &Chart, block: usize, action: usize) -> (u16, usize) {
     match chart.records[block].targets[action] {
         BARRED => (SKIPPED, block),
         target => (chart.records[target as usize].label, target as usize),

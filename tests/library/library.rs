@@ -1,4 +1,4 @@
-//! The static library's eleven functions: the safe ones of include/pilfstera.rs, and in `raw` each as a C program calls it. The file is
+//! The static library's twelve functions: the safe ones of include/pilfstera.rs, and in `raw` each as a C program calls it. The file is
 //! included, not named by its path, so that its declarations of the C functions are in reach here.
 
 include!("../../include/pilfstera.rs");
@@ -7,7 +7,8 @@ include!("../../include/pilfstera.rs");
 pub mod raw {
     use super::{
         pilfstera_check_chart, pilfstera_check_sheet, pilfstera_depth, pilfstera_first_difference, pilfstera_go_round,
-        pilfstera_make, pilfstera_rest, pilfstera_run_chart, pilfstera_run_sheet, pilfstera_set_point, pilfstera_way, Log,
+        pilfstera_make, pilfstera_part, pilfstera_rest, pilfstera_run_chart, pilfstera_run_sheet, pilfstera_set_point, pilfstera_way,
+        Log,
     };
 
     pub fn check_sheet(sheet: &[u8], returned: &mut usize) -> u8 {
@@ -67,6 +68,40 @@ pub mod raw {
     pub fn way(sheet: &[u8], block: usize, actions: &mut [u8], returned: &mut usize) -> u8 {
         // SAFETY: as above.
         unsafe { pilfstera_way(sheet.as_ptr(), sheet.len(), block, actions.as_mut_ptr(), actions.len(), returned) }
+    }
+
+    /// Where `part` stores whether the charts are equal.
+    pub const EQUAL: usize = 3;
+
+    pub fn part(first: &[u8], second: &[u8], actions: &mut [u8], returned: &mut usize, equal: &mut [u8; 8]) -> u8 {
+        part_of(first, first.len(), second, second.len(), actions, returned, equal)
+    }
+
+    /// The charts have these lengths, of which the slices may be the beginnings.
+    pub fn part_of(
+        first: &[u8],
+        first_length: usize,
+        second: &[u8],
+        second_length: usize,
+        actions: &mut [u8],
+        returned: &mut usize,
+        equal: &mut [u8; 8],
+    ) -> u8 {
+        let (room, equal) = (actions.len(), &mut equal[EQUAL]);
+        // SAFETY: as above. Where a length is above its slice's, the slice has the whole header, and the length is another than its counts
+        // give, or the header is refused: no byte behind it is read.
+        unsafe {
+            pilfstera_part(
+                first.as_ptr(),
+                first_length,
+                second.as_ptr(),
+                second_length,
+                actions.as_mut_ptr(),
+                room,
+                returned,
+                equal,
+            )
+        }
     }
 
     pub fn set_point(

@@ -1,4 +1,5 @@
-//! Random accepted charts of up to 255 blocks: nodes with labels and targets, of which those that behave alike are one block.
+//! Random accepted charts of up to 255 blocks: nodes with labels and targets, of which those that behave alike are one block. A machine that is
+//! changed a little gives a chart that differs a little, and late, or not at all.
 
 use crate::generate::encode_chart;
 use crate::partition::{reach, refine, NONE};
@@ -46,15 +47,53 @@ fn targets(rng: &mut Random, labels: &[u32], actions: usize) -> Vec<u32> {
     next
 }
 
+#[derive(Clone)]
+pub struct Machine {
+    actions: usize,
+    labels: Vec<u32>,
+    next: Vec<u32>,
+    start: usize,
+}
+
+impl Machine {
+    pub fn random(rng: &mut Random) -> Self {
+        let (actions, most) = (rng.pick(&[1, 2, 2, 3, 8]), rng.pick(&[6, 40, 40, 120, 255]));
+        let count = 1 + rng.below(most);
+        let labels = labels(rng, count);
+        let next = targets(rng, &labels, actions);
+        let start = if rng.one_in(4) { rng.below(count) } else { 0 };
+        Machine { actions, labels, next, start }
+    }
+
+    pub fn chart(&self) -> Vec<u8> {
+        let Machine { actions, labels, next, start } = self;
+        let part = refine(labels, next, *actions);
+        let (order, place) = reach(*start, &part, next, *actions);
+        let target = |to: &u32| if *to == NONE { 255 } else { place[&part[*to as usize]] as u8 };
+        let block = |k: &usize| (labels[*k] as u16, next[k * actions..][..*actions].iter().map(target).collect());
+        encode_chart(&order.iter().map(block).collect::<Vec<_>>())
+    }
+
+    /// One target another, if the action is open.
+    pub fn with_target(mut self, rng: &mut Random) -> Self {
+        let (at, count) = (rng.below(self.next.len()), self.labels.len());
+        if self.next[at] != NONE {
+            self.next[at] = rng.below(count) as u32;
+        }
+        self
+    }
+
+    /// An action that all nodes of one label bar is open there, or the other way round.
+    pub fn with_bar(mut self, rng: &mut Random) -> Self {
+        let (k, a, count) = (rng.below(self.labels.len()), rng.below(self.actions), self.labels.len());
+        let barred = self.next[k * self.actions + a] == NONE;
+        for i in (0..count).filter(|i| self.labels[*i] == self.labels[k]) {
+            self.next[i * self.actions + a] = if barred { rng.below(count) as u32 } else { NONE };
+        }
+        self
+    }
+}
+
 pub fn chart(rng: &mut Random) -> Vec<u8> {
-    let (actions, most) = (rng.pick(&[1, 2, 2, 3, 8]), rng.pick(&[6, 40, 40, 120, 255]));
-    let count = 1 + rng.below(most);
-    let labels = labels(rng, count);
-    let next = targets(rng, &labels, actions);
-    let start = if rng.one_in(4) { rng.below(count) } else { 0 };
-    let part = refine(&labels, &next, actions);
-    let (order, place) = reach(start, &part, &next, actions);
-    let target = |to: &u32| if *to == NONE { 255 } else { place[&part[*to as usize]] as u8 };
-    let block = |k: &usize| (labels[*k] as u16, next[k * actions..][..actions].iter().map(target).collect());
-    encode_chart(&order.iter().map(block).collect::<Vec<_>>())
+    Machine::random(rng).chart()
 }

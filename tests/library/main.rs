@@ -1,6 +1,7 @@
 //! Holds the static library to an independent implementation that lists every configuration, on random sheets and charts of every kind,
-//! its ways to blocks to all sequences in order, its set-points to a search, its counts for counters that go round to lists of what increments
-//! reach, and its answers about two logs to a comparison in full. It stops at the first difference, with the bytes in hexadecimal, and fails if some kind of answer never came.
+//! its ways to blocks to all sequences in order, where two charts part to a search over all pairs of blocks, its set-points to a search, its
+//! counts for counters that go round to lists of what increments reach, and its answers about two logs to a comparison in full. It stops at the
+//! first difference, with the bytes in hexadecimal, and fails if some kind of answer never came.
 
 mod charts;
 mod depth;
@@ -10,6 +11,7 @@ mod hard;
 mod library;
 mod logs;
 mod machines;
+mod part;
 mod partition;
 mod random;
 mod rows;
@@ -469,6 +471,7 @@ fn kinds() -> Vec<String> {
     all.extend(versions::kinds());
     all.extend(depth::kinds());
     all.extend(way::kinds());
+    all.extend(part::kinds());
     all.extend(set_point::kinds());
     all.extend(go_round::kinds());
     all.extend(logs::kinds());
@@ -509,6 +512,7 @@ fn main() {
     depth::test(&mut test, count as usize);
     hard_sheets(&mut test, count as usize / 60);
     way::test(&mut test);
+    part::test(&mut test, count as usize);
     set_point::test(&mut test, count as usize);
     go_round::test(&mut test, count as usize);
     logs::test(&mut test, count as usize);

@@ -1,5 +1,5 @@
 //! Charts whose blocks stand in a row, by parameters: their settling depth is known, some of them take as many rounds of refinement as there can
-//! be, and some are refused only at their last record. The long ones are measured in bench/.
+//! be, and some are refused only at their last record. Then pairs of rings that read alike as long as can be. The long ones are measured in bench/.
 
 use crate::generate::encode_chart;
 
@@ -45,6 +45,42 @@ pub fn gate(count: usize) -> Vec<u8> {
         _ => 30,
     };
     row(count, label, |i| vec![if i < last { i as u8 + 1 } else { BARRED }, if i > 0 { i as u8 - 1 } else { BARRED }])
+}
+
+/// A ring: an action advances by its steps, each to the next block, or from the last one back to the block at an index.
+pub fn ring(labels: &[u16], back: usize, actions: usize, steps: impl Fn(usize) -> usize) -> Vec<u8> {
+    let next = |i: usize| if i + 1 < labels.len() { i + 1 } else { back };
+    let target = |i: usize, a: usize| (0..steps(a)).fold(i, |at, _| next(at)) as u8;
+    row(labels.len(), |i| labels[i], |i| (0..actions).map(|a| target(i, a)).collect())
+}
+
+/// Labels that have two numbers as periods, two fewer than both numbers together: those are equal that a period makes equal, and no others. If the
+/// numbers have no common divisor, there are two different ones; one label more, and all would be equal (Fine and Wilf).
+fn twice_periodic(one: usize, other: usize) -> Vec<u16> {
+    let count = one + other - 2;
+    let mut labels: Vec<u16> = (0..count as u16).collect();
+    for period in [one, other].repeat(count) {
+        for i in period..count {
+            let least = labels[i].min(labels[i - period]);
+            (labels[i], labels[i - period]) = (least, least);
+        }
+    }
+    labels
+}
+
+/// The labels of two rings of so many blocks, which have no common divisor. As many entries read alike as both have blocks, less two: so many steps part
+/// them, and no fewer.
+pub fn rings(one: usize, other: usize) -> (Vec<u16>, Vec<u16>) {
+    let labels = twice_periodic(one, other);
+    (labels[..one].to_vec(), labels[..other].to_vec())
+}
+
+/// The labels of two rows of so many blocks, three or more: the end of the one leads back to block 0, of the other to block 1. From block 1 on they are
+/// rings of so many blocks and of one fewer, and before it stands the label that the longer period gives. So they read alike for an entry more than such
+/// rings, as long as two charts of so many blocks can and still part.
+pub fn late_rings(count: usize) -> Vec<u16> {
+    let labels = twice_periodic(count, count - 1);
+    [&labels[count - 1..count], &labels[..count - 1]].concat()
 }
 
 /// A chain by the last action, whose end leads by the first to one block more, that does what block 0 does: refused 14 there, after all rounds.

@@ -12,7 +12,7 @@ const LISTED: usize = 20_000;
 const MOST_BLOCKS: usize = 12;
 
 /// The sequence that comes next, by length and then by action numbers.
-fn advance(sequence: &mut Vec<u8>, actions: usize) {
+pub fn advance(sequence: &mut Vec<u8>, actions: usize) {
     let Some(at) = sequence.iter().rposition(|a| usize::from(*a) + 1 < actions) else {
         *sequence = vec![0; sequence.len() + 1];
         return;
@@ -22,7 +22,7 @@ fn advance(sequence: &mut Vec<u8>, actions: usize) {
 }
 
 /// How many sequences have fewer than so many actions, if that is at most `LISTED`.
-fn sequences(actions: usize, blocks: usize) -> Option<usize> {
+pub fn sequences(actions: usize, blocks: usize) -> Option<usize> {
     let mut count = 0usize;
     for length in 0..blocks {
         count += actions.checked_pow(length as u32).filter(|n| *n <= LISTED)?;

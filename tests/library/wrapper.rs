@@ -1,13 +1,14 @@
-//! What include/pilfstera.rs has of its own: the words of a refusal, the lengths and limits, and what a run, a way, a set-point and a counter that
-//! goes round answer. Each is held to what the library answers, or to documents 01 and 02.
+//! What include/pilfstera.rs has of its own: the words of a refusal, the lengths and limits, and what a run, a way, two charts, a set-point and a
+//! counter that goes round answer. Each is held to what the library answers, or to documents 01 and 02.
 
 use crate::generate::{encode, one_counter, region};
 use crate::library::{
-    bound_size, chart_length, check_sheet, go_round, list_length, make, run_chart, run_room, run_sheet, set_point, way, way_room,
-    Refusal, Run, SetPoint, CARRY, LEAST_MODULUS, LONGEST_CHART, LONGEST_LIST, LONGEST_SEQUENCE, LONGEST_SHEET, LONGEST_WAY,
-    MOST_ACTIONS, MOST_BLOCKS, MOST_COUNTERS, MOST_FACTOR, MOST_INCREMENTS, MOST_MODULUS, MOST_OFFSET, MOST_REGIONS, MOST_VALUE,
-    SET, SKIPPED, VERSION_1_LONGEST_LIST, VERSION_1_LONGEST_SHEET,
+    bound_size, chart_length, check_sheet, go_round, list_length, make, part, part_room, run_chart, run_room, run_sheet, set_point,
+    way, way_room, Refusal, Run, SetPoint, CARRY, LEAST_MODULUS, LONGEST_CHART, LONGEST_LIST, LONGEST_PART, LONGEST_SEQUENCE,
+    LONGEST_SHEET, LONGEST_WAY, MOST_ACTIONS, MOST_BLOCKS, MOST_COUNTERS, MOST_FACTOR, MOST_INCREMENTS, MOST_MODULUS, MOST_OFFSET,
+    MOST_REGIONS, MOST_VALUE, SET, SKIPPED, VERSION_1_LONGEST_LIST, VERSION_1_LONGEST_SHEET,
 };
+use crate::rows;
 use crate::same;
 use crate::sheets::{self, Move, Rule, Sheet};
 use std::collections::BTreeSet;
@@ -17,9 +18,9 @@ fn refused<T>(number: u8, returned: usize) -> Result<T, Refusal> {
     Err(Refusal { number, returned })
 }
 
-/// Each refusal's number, and what its words must say of the reason and of the number returned, from document 01's table and, for 15, 19 and 22,
-/// document 02. No refusal has another number.
-const WORDS: [(u8, &str, &str); 17] = [
+/// Each refusal's number, and what its words must say of the reason and of the number returned, from document 01's table and, for 15, 16, 19 and
+/// 22, document 02. No refusal has another number.
+const WORDS: [(u8, &str, &str); 18] = [
     (1, "shorter than its header, or its mark or version", "no place"),
     (2, "count is outside its limits", "first such count stands there"),
     (3, "length differs from what the counts give, or is above 4,096 actions", "that is the actual length"),
@@ -35,6 +36,7 @@ const WORDS: [(u8, &str, &str); 17] = [
     (13, "one label bar different actions", "later record stands there"),
     (14, "told apart by no sequence", "later record stands there"),
     (15, "no block of this number", "that is the number of blocks"),
+    (16, "charts have different numbers of actions", "number of actions stands there"),
     (19, "no carry with allowed factor and offset, or the wanted value is beyond its bounds", "no place"),
     (22, "modulus, the number of increments, the start, an increment or the wanted value is outside its limits", "no place"),
 ];
@@ -180,6 +182,24 @@ fn runs() {
     same("a run barred at once", &last, run_sheet(&last, &[0], &mut [0; 2]), Ok(Run { entries: 2, barred: Some(0) }));
 }
 
+/// What two charts answer: a length, none, or the refusal. Two of the most blocks need the longest buffer, and one byte less is refused.
+fn parts() {
+    let (one, other) = (rows::chain(3, 2, |a| a == 1), rows::chain(2, 2, |a| a == 1));
+    let mut actions = [9; part_room(3, 2)];
+    same("charts that part", &one, part(&one, &other, &mut actions), Ok(Some(1)));
+    same("where they part", &one, actions, [1, 9, 9, 9]);
+    same("charts that are equal", &one, part(&one, &one, &mut [0; part_room(3, 3)]), Ok(None));
+    same("charts that part at once", &one, part(&one, &rows::different(2, 2), &mut actions), Ok(Some(0)));
+    same("a buffer one byte short", &one, part(&one, &other, &mut actions[1..]), refused(10, part_room(3, 2)));
+    same("other numbers of actions", &one, part(&one, &rows::chain(2, 1, |_| true), &mut []), refused(16, 5));
+    same("no first chart", &one, part(&one[1..], &other[1..], &mut []), refused(1, 0));
+    same("no second chart", &one, part(&one, &other[1..], &mut []), refused(1, one.len()));
+    let most = rows::different(MOST_BLOCKS, 1);
+    same("part_room of the most blocks", &most, part_room(MOST_BLOCKS, MOST_BLOCKS), LONGEST_PART);
+    same("LONGEST_PART", &most, part(&most, &most, &mut [0; LONGEST_PART]), Ok(None));
+    same("one byte less", &most, part(&most, &most, &mut [0; LONGEST_PART - 1]), refused(10, LONGEST_PART));
+}
+
 /// The kinds and limits of a rule, and what a set-point answers. A number at its limit is answered, on either side of 0; one beyond is not.
 fn set_points() {
     let point = |old, remainder| Ok(SetPoint { old, remainder });
@@ -234,6 +254,7 @@ pub fn test() {
     refusals();
     [1, 2].into_iter().for_each(limits);
     runs();
+    parts();
     set_points();
     go_rounds();
 }

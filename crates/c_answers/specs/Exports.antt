@@ -15,6 +15,7 @@ use Rattle.charting.specs.declared.Made.{Made}
 use Rattle.access_sequence.specs.declared.Access.{Access}
 use Rattle.model.specs.declared.Rule.{Rule}
 use Rattle.model.specs.declared.Rule.the-variants.{Set, Carry}
+use Rattle.separating_sequence.specs.declared.Separation.{Separation}
 use Rattle.set_point.specs.declared.SetPoint.{SetPoint}
 use Rattle.congruence.specs.declared.Solved.{Solved}
 
@@ -72,6 +73,22 @@ wayNumber (Access.Refused n p) = n
 unfoldable pub wayReturned : Access → ℕ
 wayReturned (Access.Done l) = l
 wayReturned (Access.Refused n p) = p
+
+-- where two charts part: 0 and the length of the sequence, which is 0 where they are equal; whether they are is stored apart, and left as it was on refusal
+unfoldable pub partNumber : Separation → ℕ
+partNumber Separation.Equal = 0
+partNumber (Separation.Parted l) = 0
+partNumber (Separation.Refused n p) = n
+
+unfoldable pub partReturned : Separation → ℕ
+partReturned Separation.Equal = 0
+partReturned (Separation.Parted l) = l
+partReturned (Separation.Refused n p) = p
+
+unfoldable pub partEqual : Separation → ℕ → ℕ
+partEqual Separation.Equal old = 1
+partEqual (Separation.Parted l) old = 0
+partEqual (Separation.Refused n p) old = old
 
 -- a rule from a kind, as in a rule record, and its numbers: kind 1 is a carry, here from counter 0, and no other kind is
 unfoldable pub ruleFrom : ℕ → ℤ → ℤ → Rule

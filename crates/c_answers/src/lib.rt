@@ -2,7 +2,7 @@
 // stored through pointers.
 // Internal: serves sister crates; no function asks anything of its caller.
 ghost use mathlib.Core.Path.{_≡_};
-ghost use Rattle.c_answers.specs.Exports.{checkNumber, checkReturned, runNumber, runReturned, runBarred, depthNumber, depthReturned, makeNumber, makeReturned, wayNumber, wayReturned, barredIndex, ruleFrom, pointNumber, pointReturned, pointOld, pointRemainder, solvedNumber, solvedReturned};
+ghost use Rattle.c_answers.specs.Exports.{checkNumber, checkReturned, runNumber, runReturned, runBarred, depthNumber, depthReturned, makeNumber, makeReturned, wayNumber, wayReturned, partNumber, partReturned, partEqual, barredIndex, ruleFrom, pointNumber, pointReturned, pointOld, pointRemainder, solvedNumber, solvedReturned};
 use access_sequence::Access;
 use answers::Checked;
 use answers::FirstBarred;
@@ -11,6 +11,7 @@ use chart::Settled;
 use charting::Made;
 use congruence::Solved;
 use model::Rule;
+use separating_sequence::Separation;
 use set_point::SetPoint;
 
 // Stores what a check returns, and gives its number.
@@ -119,6 +120,33 @@ pub fn told_way(access: Access, returned: &mut usize) -> u8
             0
         }
         Access::Refused {
+            number,
+            returned: value,
+        } => {
+            *returned = value;
+            number
+        }
+    }
+}
+
+// Stores how long the sequence is that parts two charts and whether they are equal, or what a refusal returns, and gives its number.
+pub fn told_part(separation: Separation, returned: &mut usize, equal: &mut u8) -> u8
+    ensures { λ r. ⌜ r ≡ partNumber separation ⌝ }
+    ensures { λ _. ⌜ now (returned .exit) ≡ partReturned separation ⌝ }
+    ensures { λ _. ⌜ now (equal .exit) ≡ partEqual separation (now (equal .entry)) ⌝ }
+{
+    match separation {
+        Separation::Equal => {
+            *returned = 0;
+            *equal = 1;
+            0
+        }
+        Separation::Parted { length: actions } => {
+            *returned = actions;
+            *equal = 0;
+            0
+        }
+        Separation::Refused {
             number,
             returned: value,
         } => {

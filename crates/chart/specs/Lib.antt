@@ -1,9 +1,7 @@
 pub mod Check
-pub mod Records
 pub mod Apart
 pub mod RunChart
 pub mod Accepted
-pub mod Bars
 pub mod Depth
 pub mod Walk
 pub mod Ran

@@ -16,7 +16,8 @@ use Rattle.answers.specs.Stages.{andThen, demand, each, passed, each-first}
 use Rattle.model.specs.Chart.{actionsOf, blocksOf, recordAt, nextIn, nextUnnamed, chartSystem, roundClass}
 use Rattle.model.specs.Rounds.{class-own, rounds-alike}
 use Rattle.chart_bytes.specs.Header.{markCheck, countCheck, lengthCheck, headerCheck}
-use Rattle.chart.specs.Check.{targetCheck, fieldsCheck, limitsCheck, recordCheck, orderCheck, numberCheck, numbersCheck, barCheck, barsCheck, classCheck, classesCheck, formCheck, chartCheck}
+use Rattle.chart_form.specs.Form.{targetCheck, fieldsCheck, limitsCheck, recordCheck, orderCheck, numberCheck, numbersCheck, barCheck, barsCheck}
+use Rattle.chart.specs.Check.{classCheck, classesCheck, formCheck, chartCheck}
 use Rattle.chart.specs.Apart.{class-shared}
 use Rattle.chart.specs.Accepted.{Formed, form-passed, own-apart, classes-own}
 

@@ -13,11 +13,11 @@ use answers::sequence::check_sequence;
 use chart_bytes::fields::actions_of;
 use chart_bytes::header::check_header;
 use chart_bytes::rounds::by_labels;
+use chart_form::bars::check_bars;
+use chart_form::limits::check_limits;
+use chart_form::numbering::check_numbers;
 
-mod bars;
 mod classes;
-mod limits;
-mod numbering;
 mod walk;
 
 // The settling depth of a chart: sequences of so many actions tell all its blocks apart, or the chart was refused.
@@ -37,16 +37,16 @@ fn check_form(c: &[u8], f: &mut [u8]) -> Checked
     let Checked::Fine = found else {
         return found;
     };
-    let limits = limits::check_limits(c);
+    let limits = check_limits(c);
     let Checked::Fine = limits else {
         return limits;
     };
-    let numbers = numbering::check_numbers(c);
+    let numbers = check_numbers(c);
     let Checked::Fine = numbers else {
         return numbers;
     };
     by_labels(c, f);
-    bars::check_bars(c, f)
+    check_bars(c, f)
 }
 
 // The settling depth of a chart, or the refusal of its check.

@@ -22,7 +22,7 @@ use Rattle.sheet_bytes.specs.Three.{shapeOf}
 use Rattle.sheet_bytes.specs.Decode.{decode}
 use Rattle.sheet.specs.Accepted.{stages, accepted}
 use Rattle.sheet.specs.Check.{sheetCheck}
-use Rattle.tables.specs.Meaning.{Ready}
+use Rattle.table_rows.specs.Meaning.{Ready}
 use Rattle.minimize.specs.State.{counters-decoded, actions-decoded}
 use Rattle.minimize.specs.declared.Refined.{Refined}
 use Rattle.minimize.specs.declared.Refined.the-variants.{TooMany, Done as Tabled}

@@ -1,18 +1,19 @@
 -- Which record first names each block of a chart, and by which action, as noted in two arrays; and the word that the notes give.
-use mathlib.Core.Path.{_≡_, refl, sym, ap, subst, _∙_}
+use mathlib.Core.Path.{_≡_, sym, ap, subst, _∙_}
 use mathlib.Core.Logic.{inl, inr, ⊎-elim}
-use mathlib.Core.List.{List, [], _∷_, _++_}
+use mathlib.Core.List.{List}
 use Prim.Native.Nat.{ℕ, zero, suc, _+_, _-_, _≤_, _<_}
 use native.Mathlib.Decide.{ℕ-discrete}
 use native.Mathlib.Numerals.{add-one}
 use native.Mathlib.Omega.{arith}
-use lib.ListN.{length, getD, set, length-append}
+use lib.ListN.{length, getD, set}
 use lib.Seq.{getD-set-same, getD-set-other}
 use Rattle.systems.specs.System.{System}
 use Rattle.systems.specs.FirstWords.{Earlier, earlier-below, NumberedAsNamed, FirstNaming, Along, along-start, along-naming, naming-next, along-length}
 use Rattle.systems.specs.Laws.{below-suc}
 use Rattle.model.specs.Chart.{actionsOf, blocksOf, targetOf, chartSystem}
 use Rattle.model.specs.Rounds.{step-target, target-step}
+use Rattle.noted_words.specs.Words.{Falling, climbed, notedWord}
 
 -- an array of notes has an entry for each byte that a target may be
 abbrev pub NotesRoom : List ℕ → Type 0
@@ -104,59 +105,9 @@ noted-first c rs bs N few F k p h =
         none-before j b (inr (d, d′)) = omega arith
 
 -- the records that are noted for the blocks up to k are earlier ones
-abbrev pub Falling : List ℕ → ℕ → Type 0
-Falling rs k = (j : ℕ) → 0 < j → j ≤ k → getD rs j 0 < j
-
 pub noted-falling : (c rs bs : List ℕ) → NumberedAsNamed (chartSystem c) (blocksOf c) → blocksOf c ≤ 255 → NotedFrom c 0 0 rs bs
     → (k : ℕ) → k < blocksOf c → Falling rs k
 noted-falling c rs bs N few F k h j p l = naming-next N (getD rs j 0) (getD bs j 0) j p (omega arith) (noted-first c rs bs N few F j p (omega arith)) .0
-
--- the word that is noted for block k: that of the record noted for it, and then the action noted for it; m steps at most
-unfoldable pub climbed : ℕ → List ℕ → List ℕ → ℕ → List ℕ
-climbed zero rs bs k = []
-climbed (suc m) rs bs zero = []
-climbed (suc m) rs bs (suc k) = climbed m rs bs (getD rs (suc k) 0) ++ (getD bs (suc k) 0 ∷ [])
-
--- The word that is noted for block k, which takes at most k steps.
-unfoldable pub notedWord : List ℕ → List ℕ → ℕ → List ℕ
-notedWord rs bs k = climbed k rs bs k
-
--- more steps change nothing
-climbed-enough : (rs bs : List ℕ) (k : ℕ) → Falling rs k → (m n j : ℕ) → j ≤ k → j ≤ m → j ≤ n → climbed m rs bs j ≡ climbed n rs bs j
-unfolding climbed
-climbed-enough rs bs k F zero zero j l h g = refl
-climbed-enough rs bs k F zero (suc n) zero l h g = refl
-climbed-enough rs bs k F zero (suc n) (suc j) l h g = absurd (omega arith)
-climbed-enough rs bs k F (suc m) zero zero l h g = refl
-climbed-enough rs bs k F (suc m) zero (suc j) l h g = absurd (omega arith)
-climbed-enough rs bs k F (suc m) (suc n) zero l h g = refl
-climbed-enough rs bs k F (suc m) (suc n) (suc j) l h g =
-    let f = F (suc j) (omega arith) l in
-    let e = climbed-enough rs bs k F m n (getD rs (suc j) 0) (omega arith) (omega arith) (omega arith) in
-    cc
-
-pub word-none : (rs bs : List ℕ) → notedWord rs bs 0 ≡ []
-unfolding notedWord climbed
-word-none rs bs = refl
-
-pub word-more : (rs bs : List ℕ) (k j : ℕ) → Falling rs k → 0 < j → j ≤ k → notedWord rs bs j ≡ notedWord rs bs (getD rs j 0) ++ (getD bs j 0 ∷ [])
-unfolding notedWord climbed
-word-more rs bs k zero F p l = absurd (omega arith)
-word-more rs bs k (suc j) F p l =
-    let f = F (suc j) p l in
-    let e = climbed-enough rs bs k F j (getD rs (suc j) 0) (getD rs (suc j) 0) (omega arith) (omega arith) (omega arith) in
-    cc
-
--- its length, by one step
-pub word-length : (rs bs : List ℕ) (k j : ℕ) → Falling rs k → 0 < j → j ≤ k → length (notedWord rs bs j) ≡ length (notedWord rs bs (getD rs j 0)) + 1
-word-length rs bs k j F p l =
-    omega (arith, ap length (word-more rs bs k j F p l), length-append (notedWord rs bs (getD rs j 0)) (getD bs j 0 ∷ []))
-
--- all steps are counted once block 0 is there
-pub word-counted : (rs bs : List ℕ) (k at count : ℕ) → at ≡ 0 → count + length (notedWord rs bs at) ≡ length (notedWord rs bs k)
-    → count ≡ length (notedWord rs bs k)
-word-counted rs bs k at count e q =
-    omega (arith, ap (λ (j : ℕ). length (notedWord rs bs j)) e, ap length (word-none rs bs))
 
 -- the word along first namings, where these are noted
 pub word-along : (t : System ℕ) (rs bs : List ℕ) (k : ℕ) → Falling rs k → ((j : ℕ) → 0 < j → j ≤ k → FirstNaming t (getD rs j 0) (getD bs j 0) j)

@@ -1,102 +1,11 @@
--- A buffer into which the word that is noted for a block is written, from its end on.
-use mathlib.Core.Path.{_≡_, refl, sym, ap, _∙_}
-use mathlib.Core.List.{List, [], _∷_, _++_, append-assoc, append-nil}
-use Prim.Native.Nat.{ℕ, suc, _-_, _≤_, _<_}
-use native.Mathlib.Omega.{arith}
-use lib.ListN.{length, getD, set, take, drop, length-append, length-set, take-append-drop}
-use lib.Seq.{length-take-le, drop-length, take-suc, drop-cons, set-at, getD-at, drop-at}
+-- What is written for the first word of a block.
+use mathlib.Core.Path.{_≡_}
+use mathlib.Core.List.{List}
+use Prim.Native.Nat.{ℕ}
+use lib.ListN.{length}
 use Rattle.systems.specs.FirstWords.{Along}
 use Rattle.systems.specs.System.{System}
 use Rattle.answers.specs.Run.{overwrite}
-use Rattle.first_words.specs.Notes.{Falling, notedWord, word-none, word-more, word-length}
-
--- the buffer once the elements of w from i on stand in it
-unfoldable pub filled : List ℕ → List ℕ → ℕ → List ℕ
-filled old w i = take i old ++ (drop i w ++ drop (length w) old)
-
--- nothing stands in it yet
-filled-none : (old w : List ℕ) (i : ℕ) → i ≡ length w → old ≡ filled old w i
-unfolding filled
-filled-none old w i e =
-    sym (take-append-drop i old)
-    ∙ ap (λ (k : ℕ). take i old ++ drop k old) e
-    ∙ ap (λ (l : List ℕ). take i old ++ (l ++ drop (length w) old)) (sym (ap (λ (k : ℕ). drop k w) e ∙ drop-length w))
-
--- one element more
-filled-more : (old w : List ℕ) (i x : ℕ) → i < length w → length w ≤ length old → getD w i 0 ≡ x → set (filled old w (suc i)) i x ≡ filled old w i
-unfolding filled
-filled-more old w i x h l e =
-    let behind = drop (suc i) w ++ drop (length w) old in
-    ap (λ (f : List ℕ). set (f ++ (drop (suc i) w ++ drop (length w) old)) i x) (take-suc old i 0 (omega arith))
-    ∙ ap (λ (f : List ℕ). set f i x) (append-assoc (take i old) (getD old i 0 ∷ []) behind)
-    ∙ set-at (take i old) (getD old i 0) behind x i (length-take-le i old (omega arith))
-    ∙ ap (λ (y : ℕ). take i old ++ (y ∷ (drop (suc i) w ++ drop (length w) old))) (sym e)
-    ∙ ap (λ (f : List ℕ). take i old ++ (f ++ drop (length w) old)) (sym (drop-cons w i 0 h))
-
--- all of it
-filled-all : (old w : List ℕ) → filled old w 0 ≡ overwrite w old
-unfolding filled overwrite
-filled-all old w = refl
-
--- On the way: the actions of the word from `left` on are written, and those before are the word of block `at`.
-pub record Writing (rs bs : List ℕ) (k : ℕ) (old : List ℕ) (at left : ℕ) (out : List ℕ) : Type 0 where
-  pub within : at ≤ k
-  pub before : left ≡ length (notedWord rs bs at)
-  pub behind : notedWord rs bs k ≡ notedWord rs bs at ++ drop left (notedWord rs bs k)
-  pub holds : out ≡ filled old (notedWord rs bs k) left
-  pub same-length : length out ≡ length old
-
-pub writing-begun : (rs bs : List ℕ) (k count : ℕ) (old : List ℕ) → count ≡ length (notedWord rs bs k) → Writing rs bs k old k count old
-writing-begun rs bs k count old e =
-    let w = notedWord rs bs k in
-    record {
-      within = omega arith;
-      before = e;
-      behind = sym (ap (λ (l : List ℕ). w ++ l) (ap (λ (n : ℕ). drop n w) e ∙ drop-length w) ∙ append-nil w);
-      holds = filled-none old w count e;
-      same-length = refl;
-    }
-
--- one action more
-module _ (rs bs : List ℕ) (k : ℕ) (old : List ℕ) (F : Falling rs k) (room : length (notedWord rs bs k) ≤ length old) where
-  pub left-some : (at left : ℕ) (out : List ℕ) → Writing rs bs k old at left out → 0 < at → (0 < left) × (left ≤ length out)
-  left-some at left out W p =
-      let l = W .within in
-      let n = word-length rs bs k at F p l in
-      let m = ap length (W .behind) ∙ length-append (notedWord rs bs at) (drop left (notedWord rs bs k)) in
-      (omega (arith, W .before), omega (arith, W .before, W .same-length))
-
-  pub writing-more : (at left : ℕ) (out : List ℕ) → Writing rs bs k old at left out → 0 < at
-      → Writing rs bs k old (getD rs at 0) (left - 1) (set out (left - 1) (getD bs at 0))
-  writing-more at left out W p =
-      let l = W .within in
-      let w = notedWord rs bs k in
-      let v = notedWord rs bs (getD rs at 0) in
-      let b = getD bs at 0 in
-      let n = word-length rs bs k at F p l in
-      let e : left - 1 ≡ length v = omega (arith, W .before) in
-      let s : suc (left - 1) ≡ left = omega (arith, W .before) in
-      let f = F at p l in
-      -- the word, cut before and behind this action
-      let c : notedWord rs bs k ≡ v ++ (b ∷ drop left w) =
-      W .behind ∙ ap (λ (u : List ℕ). u ++ drop left w) (word-more rs bs k at F p l) ∙ append-assoc v (b ∷ []) (drop left w) in
-      let d : drop (left - 1) w ≡ b ∷ drop left w = ap (drop (left - 1)) c ∙ drop-at v (b ∷ drop left w) (left - 1) (sym e) in
-      let g : getD w (left - 1) 0 ≡ b = ap (λ (u : List ℕ). getD u (left - 1) 0) c ∙ getD-at v b (drop left w) 0 (left - 1) (sym e) in
-      let m = ap length c ∙ length-append v (b ∷ drop left w) in
-      record {
-        within = omega arith;
-        before = e;
-        behind = c ∙ ap (λ (u : List ℕ). v ++ u) (sym d);
-        holds =
-            ap (λ (u : List ℕ). set u (left - 1) b) (W .holds ∙ ap (filled old w) (sym s))
-            ∙ filled-more old w (left - 1) b (omega arith) room g;
-        same-length = length-set out (left - 1) b ∙ W .same-length;
-      }
-
-  pub writing-done : (at left : ℕ) (out : List ℕ) → Writing rs bs k old at left out → at ≡ 0 → out ≡ overwrite (notedWord rs bs k) old
-  writing-done at left out W e =
-      let z : left ≡ 0 = W .before ∙ ap (λ (j : ℕ). length (notedWord rs bs j)) e ∙ ap length (word-none rs bs) in
-      W .holds ∙ ap (filled old (notedWord rs bs k)) z ∙ filled-all old (notedWord rs bs k)
 
 -- What is written for the word along the first namings: r is its length, and new what the buffer holds after it, where it held old before.
 pub record Led (t : System ℕ) (k r : ℕ) (old new : List ℕ) : Type 0 where

@@ -17,10 +17,10 @@ use Rattle.refinement.specs.Potential.{falling-refl, falling-trans, measure-pas
 use Rattle.refinement.specs.Loop.{working-fell}
 use Rattle.sheet_bytes.specs.declared.Shape.{Shape}
 use Rattle.sheet_bytes.specs.Decode.{decode}
-use Rattle.tables.specs.Arrays.{flagIn, depthIn, firstIn, freshIn}
-use Rattle.tables.specs.Marks.{DownBelow, UpBelow, LastRaised}
-use Rattle.tables.specs.Depths.{SureDepth, sure-known, sure-each, DepthAfter, anew, deeper}
-use Rattle.tables.specs.Meaning.{Ready, rowIn}
+use Rattle.table_rows.specs.Arrays.{flagIn, depthIn, firstIn, freshIn}
+use Rattle.table_rows.specs.Marks.{DownBelow, UpBelow, LastRaised}
+use Rattle.table_rows.specs.Depths.{SureDepth, sure-known, sure-each, DepthAfter, anew, deeper}
+use Rattle.table_rows.specs.Meaning.{Ready, rowIn}
 use Rattle.depth_bound.specs.Depth.{exactDepth}
 use Rattle.depth_bound.specs.Widths.{depth-least, depth-enough}
 use Rattle.minimize.specs.State.{State, Fell, actions-few, actions-decoded, counters-decoded, advance-quiet, state-fresh, state-swept, state-level}

@@ -12,9 +12,9 @@ use Rattle.sheet_bytes.specs.declared.Shape.{Shape}
 use Rattle.sheet_bytes.specs.declared.RegionMove.{RegionMove}
 use Rattle.sheet_bytes.specs.Space.{landThree}
 use Rattle.sheet_bytes.specs.Decode.{decode}
-use Rattle.tables.specs.Arrays.{configIn, flagIn, depthIn, sourceIn, freshIn}
-use Rattle.tables.specs.Marks.{RaisedTo}
-use Rattle.tables.specs.Meaning.{Ready, rowIn, holdsIn}
+use Rattle.table_rows.specs.Arrays.{configIn, flagIn, depthIn, sourceIn, freshIn}
+use Rattle.table_rows.specs.Marks.{RaisedTo}
+use Rattle.table_rows.specs.Meaning.{Ready, rowIn, holdsIn}
 use Rattle.tables.specs.Cutting.{cutTo, Settled, settled-same, settled-cut}
 use Rattle.minimize.specs.State.{State, Fell, OpenAt, actions-few, lowered-there, lowered-down, lowered-falling, state-same, state-cut, advance-same, advance-changed}
 

@@ -38,12 +38,13 @@ use Rattle.sheet_bytes.specs.Three.{rangesMeant, valuesMeant, rulesMeant, boxMe
 use Rattle.sheet_bytes.specs.Space.{ValuesWithin, landThree, land-meant}
 use Rattle.sheet_bytes.specs.Cuts.{cutsThree}
 use Rattle.sheet_bytes.specs.Bounds.{RangesWithin, RulesFit, rules-fit}
-use Rattle.tables.specs.Arrays.{CellsRoom, HomesRoom, TargetsRoom, FlagsRoom, BoundsRoom, valuesIn, rangesIn, regionIn, stateIn, configIn, boxIn, targetIn, flagIn, depthIn, sourceIn, firstIn, putRanges, putValues, putRanges-length, putValues-length, putHome-length, ranges-same, ranges-other, values-kept, values-same, values-other, ranges-kept, region-same, state-same as home-same, region-other, state-other}
-use Rattle.tables.specs.Marks.{raised-down, RaisedTo, RowRaised, DownBelow}
-use Rattle.tables.specs.Depths.{Deepened, Levelled}
-use Rattle.tables.specs.Sources.{Noting, Opening, Begun}
-use Rattle.tables.specs.Meaning.{Ready, rowIn, holdsIn, moveIn, move-in, box-in, covered-few, newCells, newHomes}
-use Rattle.tables.specs.Padding.{PaddedValues, PaddedRanges, PaddedRules, box-padded, start-padded, move-padded, land-padded, padded-same, ranges-within, values-within, cuts-meant, cuts-padded}
+use Rattle.table_rows.specs.Arrays.{CellsRoom, HomesRoom, TargetsRoom, FlagsRoom, BoundsRoom, valuesIn, rangesIn, regionIn, stateIn, configIn, boxIn, targetIn, flagIn, depthIn, sourceIn, firstIn, putRanges, putValues, putRanges-length, putValues-length, putHome-length, ranges-same, ranges-other, values-kept, values-same, values-other, ranges-kept, region-same, state-same as home-same, region-other, state-other}
+use Rattle.table_rows.specs.Marks.{raised-down, RaisedTo, RowRaised, DownBelow}
+use Rattle.table_rows.specs.Depths.{Deepened, Levelled}
+use Rattle.table_rows.specs.Sources.{Noting, Opening, Begun}
+use Rattle.table_rows.specs.Meaning.{Ready, rowIn, holdsIn, moveIn, move-in, box-in, covered-few}
+use Rattle.tables.specs.Growth.{newCells, newHomes}
+use Rattle.table_rows.specs.Padding.{PaddedValues, PaddedRanges, PaddedRules, box-padded, start-padded, move-padded, land-padded, padded-same, ranges-within, values-within, cuts-meant, cuts-padded}
 
 -- The arrays hold a state of the refinement loop with n rows. No row below the lowest source of another leads to it by an action whose flag is down, and no
 -- row below the first has a flag up.

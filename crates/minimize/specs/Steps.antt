@@ -24,12 +24,12 @@ use Rattle.sheet_bytes.specs.Decode.{decode}
 use Rattle.sheet_bytes.specs.Three.{configMeant, startThree}
 use Rattle.sheet_bytes.specs.Space.{ValuesWithin, landThree}
 use Rattle.sheet_bytes.specs.Bounds.{RangesWithin}
-use Rattle.tables.specs.Arrays.{CellsRoom, HomesRoom, TargetsRoom, FlagsRoom, BoundsRoom, configIn, rangesIn, regionIn, targetIn, flagIn, depthIn, freshIn}
-use Rattle.tables.specs.Marks.{RowRaised, DownBelow, LastRaised}
-use Rattle.tables.specs.Depths.{Deepened}
-use Rattle.tables.specs.Sources.{Begun}
-use Rattle.tables.specs.Meaning.{Ready, rowIn, holdsIn, NoneHolds, moveIn, newCells, newHomes}
-use Rattle.tables.specs.Growth.{RowFor, row-there, row-new, row-none, RowsWith}
+use Rattle.table_rows.specs.Arrays.{CellsRoom, HomesRoom, TargetsRoom, FlagsRoom, BoundsRoom, configIn, rangesIn, regionIn, targetIn, flagIn, depthIn, freshIn}
+use Rattle.table_rows.specs.Marks.{RowRaised, DownBelow, LastRaised}
+use Rattle.table_rows.specs.Depths.{Deepened}
+use Rattle.table_rows.specs.Sources.{Begun}
+use Rattle.table_rows.specs.Meaning.{Ready, rowIn, holdsIn, NoneHolds, moveIn}
+use Rattle.tables.specs.Growth.{newCells, newHomes, RowFor, row-there, row-new, row-none, RowsWith}
 use Rattle.tables.specs.Cutting.{Cuttable, Settled}
 use Rattle.minimize.specs.declared.Refined.{Refined}
 use Rattle.minimize.specs.declared.Refined.the-variants.{TooMany, Done}

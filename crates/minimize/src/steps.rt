@@ -1,18 +1,18 @@
 // One action of a row, and the turn of a row.
 ghost use Prim.Native.Nat.{_<_};
-ghost use Rattle.tables.specs.Meaning.{Ready};
+ghost use Rattle.table_rows.specs.Meaning.{Ready};
 ghost use Rattle.minimize.specs.State.{State, OpenAt};
 ghost use Rattle.minimize.specs.Steps.{Outcome, Turned};
 use sheet_bytes::Move;
 use sheet_bytes::RegionMove;
 use sheet_bytes::Shape;
 use sheet_bytes::space::land;
+use table_rows::depths::deepen;
+use table_rows::rows::config_in;
+use table_rows::search::move_in;
 use tables::cutting::settle;
-use tables::depths::deepen;
 use tables::growth::row_for;
 use tables::growth::rows_with;
-use tables::rows::config_in;
-use tables::search::move_in;
 
 // Action a of row i, which is open: the new number of rows, or 256 where there are too many.
 pub(crate) fn lead(

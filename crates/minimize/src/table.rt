@@ -2,8 +2,8 @@
 ghost use Prim.Native.Nat.{_<_, _≤_};
 ghost use Rattle.model.specs.DepthBound.{Doublings};
 ghost use Rattle.sheet_bytes.specs.Decode.{decode};
-ghost use Rattle.tables.specs.Arrays.{CellsRoom, HomesRoom, TargetsRoom, FlagsRoom, BoundsRoom};
-ghost use Rattle.tables.specs.Meaning.{Ready};
+ghost use Rattle.table_rows.specs.Arrays.{CellsRoom, HomesRoom, TargetsRoom, FlagsRoom, BoundsRoom};
+ghost use Rattle.table_rows.specs.Meaning.{Ready};
 ghost use Rattle.minimize.specs.State.{State};
 ghost use Rattle.minimize.specs.Steps.{Stable, Answered};
 ghost use Rattle.minimize.specs.Passes.{DownAbove, Swept};
@@ -13,11 +13,11 @@ use depth_bound::doublings;
 use depth_bound::exact_depth;
 use sheet_bytes::Shape;
 use sheet_bytes::fields::start_of;
-use tables::depths::depth_after;
-use tables::depths::sure_depth;
+use table_rows::depths::depth_after;
+use table_rows::depths::sure_depth;
+use table_rows::marks::any_raised;
+use table_rows::marks::last_raised;
 use tables::growth::append;
-use tables::marks::any_raised;
-use tables::marks::last_raised;
 
 // A pass: turns of the rows of which a flag is up, from row `last`, which is the last of them, down to the first that may have one. It ends where a row is new.
 pub(crate) fn sweep(

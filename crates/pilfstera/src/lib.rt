@@ -14,14 +14,16 @@ ghost use Rattle.chart.specs.Depth.{chartDepth};
 ghost use Rattle.chart.specs.RunChart.{chartRan, chartLeft};
 ghost use Rattle.charting.specs.Making.{makeChecks, madeBy, writtenBy};
 ghost use Rattle.access_sequence.specs.Access.{wayChecks, wayTo, answeredBy};
+ghost use Rattle.separating_sequence.specs.Separation.{pairCheck, evidence, separatedBy, leftBy};
 ghost use Rattle.set_point.specs.SetPoint.{setPoint};
 ghost use Rattle.congruence.specs.Congruence.{goRound, countsLeft};
 ghost use Rattle.logs.specs.Compare.{firstDifference, restOf, lent, partOf};
-ghost use Rattle.c_answers.specs.Exports.{checkNumber, checkReturned, runNumber, runReturned, runBarred, depthNumber, depthReturned, makeNumber, makeReturned, wayNumber, wayReturned, ruleFrom, pointNumber, pointReturned, pointOld, pointRemainder, solvedNumber, solvedReturned};
+ghost use Rattle.c_answers.specs.Exports.{checkNumber, checkReturned, runNumber, runReturned, runBarred, depthNumber, depthReturned, makeNumber, makeReturned, wayNumber, wayReturned, partNumber, partReturned, partEqual, ruleFrom, pointNumber, pointReturned, pointOld, pointRemainder, solvedNumber, solvedReturned};
 use c_answers::rule_from;
 use c_answers::told_check;
 use c_answers::told_depth;
 use c_answers::told_made;
+use c_answers::told_part;
 use c_answers::told_point;
 use c_answers::told_run;
 use c_answers::told_solved;
@@ -121,6 +123,24 @@ pub extern "C" fn pilfstera_way(
 {
     let access = access_sequence::find(sheet, block, actions);
     told_way(access, returned)
+}
+
+// The shortest action sequence that parts two charts, from the front of a buffer, or that they are equal in behaviour.
+#[no_mangle]
+pub extern "C" fn pilfstera_part(
+    first: &[u8],
+    second: &[u8],
+    actions: &mut [u8],
+    returned: &mut usize,
+    equal: &mut u8,
+) -> u8
+    ensures { λ r. ⌜ r ≡ partNumber (separatedBy (pairCheck (now (first .entry)) (now (second .entry)) (length (now (actions .entry)))) (evidence (now (first .entry)) (now (second .entry)))) ⌝ }
+    ensures { λ _. ⌜ now (actions .exit) ≡ leftBy (pairCheck (now (first .entry)) (now (second .entry)) (length (now (actions .entry)))) (evidence (now (first .entry)) (now (second .entry))) (now (actions .entry)) ⌝ }
+    ensures { λ _. ⌜ now (returned .exit) ≡ partReturned (separatedBy (pairCheck (now (first .entry)) (now (second .entry)) (length (now (actions .entry)))) (evidence (now (first .entry)) (now (second .entry)))) ⌝ }
+    ensures { λ _. ⌜ now (equal .exit) ≡ partEqual (separatedBy (pairCheck (now (first .entry)) (now (second .entry)) (length (now (actions .entry)))) (evidence (now (first .entry)) (now (second .entry)))) (now (equal .entry)) ⌝ }
+{
+    let separation = separating_sequence::find(first, second, actions);
+    told_part(separation, returned, equal)
 }
 
 // The set-point of a rule, given by its kind and numbers, for a wanted value.

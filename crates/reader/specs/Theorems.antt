@@ -15,7 +15,8 @@ use Rattle.model.specs.Chart.{actionsOf, blocksOf, recordAt, labelOf, targetOf}
 use Rattle.chart_bytes.specs.Header.{headerCheck}
 use Rattle.chart_bytes.specs.Shape.{Shaped, record-fits}
 use Rattle.chart_bytes.specs.HeaderLaws.{header-passed}
-use Rattle.chart.specs.Check.{limitsCheck, numbersCheck, barsCheck, classesCheck, formCheck, chartCheck}
+use Rattle.chart_form.specs.Form.{limitsCheck, numbersCheck, barsCheck}
+use Rattle.chart.specs.Check.{classesCheck, formCheck, chartCheck}
 use Rattle.reader.specs.declared.Handed.{Handed}
 use Rattle.reader.specs.declared.Handed.the-variants.{Block, NoneLeft}
 use Rattle.reader.specs.declared.Step.{Step}

@@ -7,8 +7,10 @@ use mathlib.Core.Path.{_≡_, refl, sym, ap, subst, _∙_}
 use mathlib.Core.Logic.{_↔_, Equivalence}
 use mathlib.Core.List.{List, [], _∷_}
 use mathlib.Core.Option.{Option, some, none, Option·map}
+use lib.Dec.{T, eqb}
 use lib.ListN.{length}
-use Rattle.systems.specs.System.{System, Reading, after, entry, written, earliest, firstBarred, reading, Alike, Below, below-nil, below-cons}
+use Rattle.systems.specs.Laws.{both, eqb-tells}
+use Rattle.systems.specs.System.{System, Reading, sameNumbers, sameIndex, sameReading, after, entry, written, earliest, firstBarred, reading, Alike, Below, below-nil, below-cons}
 
 -- A reading of n actions has n + 1 entries, whatever is barred.
 pub reading-length : {X : Type 0} (s : System X) (w : List ℕ) (x : X) → length (reading s w x .entries) ≡ suc (length w)
@@ -22,6 +24,39 @@ reading-length {X} s w x = ap suc (go w x)
 -- a reading is its entries and its barred index
 pub reading-eq : {r q : Reading} → r .entries ≡ q .entries → r .barred ≡ q .barred → r ≡ q
 reading-eq p q = λ i. record { entries = p i; barred = q i }
+
+numbers-tell : (l m : List ℕ) → T (sameNumbers l m) ↔ (l ≡ m)
+unfolding sameNumbers
+numbers-tell [] [] = (λ t. refl, λ e. tt)
+numbers-tell [] (y ∷ m) = (λ t. absurd t, λ e. let z : _≡_ {A = ℕ} 0 1 = cc in absurd (omega arith))
+numbers-tell (x ∷ l) [] = (λ t. absurd t, λ e. let z : _≡_ {A = ℕ} 0 1 = cc in absurd (omega arith))
+numbers-tell (x ∷ l) (y ∷ m) = (
+  λ t.
+      let (p, q) = both (eqb x y) (sameNumbers l m) .0 t in
+      let a = eqb-tells x y .0 p in
+      let b = numbers-tell l m .0 q in
+      (λ i. a i ∷ b i),
+  λ e. both (eqb x y) (sameNumbers l m) .1 (eqb-tells x y .1 (cc), numbers-tell l m .1 (cc)),
+)
+
+index-tells : (o u : Option ℕ) → T (sameIndex o u) ↔ (o ≡ u)
+unfolding sameIndex
+index-tells none none = (λ t. refl, λ e. tt)
+index-tells none (some j) = (λ t. absurd t, λ e. let z : _≡_ {A = ℕ} 0 1 = cc in absurd (omega arith))
+index-tells (some i) none = (λ t. absurd t, λ e. let z : _≡_ {A = ℕ} 0 1 = cc in absurd (omega arith))
+index-tells (some i) (some j) = (λ t. ap some (eqb-tells i j .0 t), λ e. eqb-tells i j .1 (cc))
+
+-- the test of readings tells whether they are equal
+pub reading-tells : (r q : Reading) → T (sameReading r q) ↔ (r ≡ q)
+unfolding sameReading
+reading-tells r q = (
+  λ t.
+      let (a, b) = both (sameNumbers (r .entries) (q .entries)) (sameIndex (r .barred) (q .barred)) .0 t in
+      reading-eq (numbers-tell (r .entries) (q .entries) .0 a) (index-tells (r .barred) (q .barred) .0 b),
+  λ e.
+      both (sameNumbers (r .entries) (q .entries)) (sameIndex (r .barred) (q .barred)) .1
+      (numbers-tell (r .entries) (q .entries) .1 (ap (λ (z : Reading). z .entries) e), index-tells (r .barred) (q .barred) .1 (ap (λ (z : Reading). z .barred) e)),
+)
 
 -- one label and one open action before a reading: the actions' indices rise by one
 unfoldable pub before : ℕ → Reading → Reading
@@ -243,3 +278,18 @@ alike-below {X} {Y} s t n hs ht x y = (λ h. bisimilar-alike s t (record { label
         go : Dec (a < n) → Both (AlikeOn (Below n) s t) (s .step a x) (t .step a y)
         go (yes l) = both-next (Below n) s t a x y below-nil (λ w b. h (a ∷ w) (below-cons l b))
         go (no l) = rw (hs a (omega arith) x, ht a (omega arith) y) both-barred
+
+-- The same to a depth.
+pub alike-to-below : {X Y : Type 0} (s : System X) (t : System Y) (n : ℕ)
+    → ((a : ℕ) → n ≤ a → (x : X) → s .step a x ≡ none) → ((a : ℕ) → n ≤ a → (y : Y) → t .step a y ≡ none)
+    → (k : ℕ) (x : X) (y : Y) → AlikeOn (λ w. Below n w × (length w ≤ k)) s t x y → AlikeTo k s t x y
+alike-to-below s t n hs ht zero x y h = alike-to-zero s t x y .1 (reading-parts s t [] x y (h [] (below-nil, omega arith)) .0)
+alike-to-below {X} {Y} s t n hs ht (suc k) x y h =
+    alike-to-suc s t k x y .1 (reading-parts s t [] x y (h [] (below-nil, omega arith)) .0, λ a. next (λ x′ y′. alike-to-below s t n hs ht k x′ y′) a (decLt a n))
+  where
+    next : ((x′ : X) (y′ : Y) → AlikeOn (λ w. Below n w × (length w ≤ k)) s t x′ y′ → AlikeTo k s t x′ y′)
+        → (a : ℕ) → Dec (a < n) → Both (AlikeTo k s t) (s .step a x) (t .step a y)
+    next again a (yes l) =
+        both-map again
+        (both-next (λ w. Below n w × (length w ≤ k)) s t a x y (below-nil, omega arith) (λ w p. h (a ∷ w) (below-cons l (p .0), omega (arith, p .1))))
+    next again a (no l) = rw (hs a (omega arith) x, ht a (omega arith) y) both-barred

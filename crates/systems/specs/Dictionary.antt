@@ -94,17 +94,35 @@ sooner-trans {u} {v} {w} (shorter h) (as-long e c) = shorter {v = u} {w = w} (om
 sooner-trans {u} {v} {w} (as-long d b) (shorter k) = shorter {v = u} {w = w} (omega arith)
 sooner-trans (as-long d b) (as-long e c) = as-long (d ∙ e) (before-trans b c)
 
+-- whatever of one length is appended to lists of which one is sooner
+pub sooner-append : {v w : List ℕ} (x y : List ℕ) → length x ≡ length y → Sooner v w → Sooner (v ++ x) (w ++ y)
+sooner-append {v} {w} x y l (shorter h) = shorter {v = v ++ x} {w = w ++ y} (omega (arith, length-append v x, length-append w y))
+sooner-append {v} {w} x y l (as-long e c) =
+    let q : length (v ++ x) ≡ length (w ++ y) = omega (arith, length-append v x, length-append w y) in
+    as-long q (before-append x y c)
+
 -- one number more: whichever it is behind lists of which one is sooner, the lesser one first behind the same list
 pub sooner-snoc : {v w : List ℕ} (a b : ℕ) → Sooner v w → Sooner (v ++ (a ∷ [])) (w ++ (b ∷ []))
-sooner-snoc {v} {w} a b (shorter h) = shorter {v = v ++ (a ∷ [])} {w = w ++ (b ∷ [])} (omega (arith, length-append v (a ∷ []), length-append w (b ∷ [])))
-sooner-snoc {v} {w} a b (as-long e c) =
-    let q : length (v ++ (a ∷ [])) ≡ length (w ++ (b ∷ [])) = omega (arith, length-append v (a ∷ []), length-append w (b ∷ [])) in
-    as-long q (before-append (a ∷ []) (b ∷ []) c)
+sooner-snoc a b s = sooner-append (a ∷ []) (b ∷ []) refl s
 
 pub sooner-last : (v : List ℕ) {a b : ℕ} → a < b → Sooner (v ++ (a ∷ [])) (v ++ (b ∷ []))
 sooner-last v {a} {b} h =
     let q : length (v ++ (a ∷ [])) ≡ length (v ++ (b ∷ [])) = omega (arith, length-append v (a ∷ []), length-append v (b ∷ [])) in
     as-long q (before-last v h)
+
+-- v is w or sooner
+abbrev pub NoLater : List ℕ → List ℕ → Type 0
+NoLater v w = (v ≡ w) ⊎ Sooner v w
+
+pub no-later-trans : {u v w : List ℕ} → NoLater u v → NoLater v w → NoLater u w
+no-later-trans {u} {v} {w} (inl e) (inl q) = inl (e ∙ q)
+no-later-trans {u} {v} {w} (inl e) (inr q) = inr (subst (λ (l : List ℕ). Sooner l w) (sym e) q)
+no-later-trans {u} {v} {w} (inr p) (inl q) = inr (subst (Sooner u) q p)
+no-later-trans {u} {v} {w} (inr p) (inr q) = inr (sooner-trans p q)
+
+pub no-later-append : {v w : List ℕ} (x : List ℕ) → NoLater v w → NoLater (v ++ x) (w ++ x)
+no-later-append x (inl e) = inl (ap (λ (l : List ℕ). l ++ x) e)
+no-later-append x (inr p) = inr (sooner-append x x refl p)
 
 -- a list of k numbers below m
 pub record ListBelow (m k : ℕ) (l : List ℕ) : Type 0 where

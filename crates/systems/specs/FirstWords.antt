@@ -14,7 +14,7 @@ use Rattle.systems.specs.System.{System, Reading, after, earliest, first
 use Rattle.systems.specs.Exploration.{place, explore}
 use Rattle.systems.specs.Words.{ended, Sooner}
 use Rattle.systems.specs.Alike.{Both, both-barred, both-open, alike-next}
-use Rattle.systems.specs.Dictionary.{compared, sooner-ordered, sooner-irreflexive, sooner-trans, sooner-snoc, sooner-last, sooner-more, nil-sooner}
+use Rattle.systems.specs.Dictionary.{compared, sooner-ordered, sooner-irreflexive, sooner-trans, sooner-snoc, sooner-last, sooner-more, nil-sooner, NoLater, no-later-trans, no-later-append}
 use Rattle.systems.specs.Explored.{Explorable, Representatives, seen, grown, seen-next, seen-later, origin, explore-representatives, place-alike}
 use Rattle.systems.specs.Quotient.{quotient, quotient-step, quotient-alike, quotient-apart, quotient-closed, quotient-bounded}
 
@@ -64,7 +64,7 @@ ended-reached {X} s start (a ∷ w) x r = ended-reached s start w (after x (s .s
     go (some y) e = by-step a r e
 
 -- one open action more
-ended-open : {X : Type 0} (s : System X) (v : List ℕ) (a : ℕ) (x y : X) → s .step a (ended s v x) ≡ some y → ended s (v ++ (a ∷ [])) x ≡ y
+pub ended-open : {X : Type 0} (s : System X) (v : List ℕ) (a : ℕ) (x y : X) → s .step a (ended s v x) ≡ some y → ended s (v ++ (a ∷ [])) x ≡ y
 unfolding ended after
 ended-open s v a x y e = ended-append s v (a ∷ []) x ∙ ap (after (ended s v x)) e
 
@@ -95,12 +95,12 @@ open-below {X} {actions} {o} {y} a f e = go (decLt a actions)
     go (yes h) = h
     go (no h) = let q = f (omega arith) in let z : _≡_ {A = ℕ} 0 1 = cc in absurd (omega arith)
 
-below-snoc : {n : ℕ} {v : List ℕ} (a : ℕ) → Below n v → a < n → Below n (v ++ (a ∷ []))
+pub below-snoc : {n : ℕ} {v : List ℕ} (a : ℕ) → Below n v → a < n → Below n (v ++ (a ∷ []))
 below-snoc a below-nil h = below-cons h below-nil
 below-snoc a (below-cons l b) h = below-cons l (below-snoc a b h)
 
 -- of two pairs one is earlier, or they are equal
-pairs-compared : (i a j b : ℕ) → Earlier i a j b ⊎ (((i ≡ j) × (a ≡ b)) ⊎ Earlier j b i a)
+pub pairs-compared : (i a j b : ℕ) → Earlier i a j b ⊎ (((i ≡ j) × (a ≡ b)) ⊎ Earlier j b i a)
 pairs-compared i a j b = go (compared i j) (compared a b)
   where
     go : (i < j) ⊎ ((i ≡ j) ⊎ (j < i)) → (a < b) ⊎ ((a ≡ b) ⊎ (b < a)) → Earlier i a j b ⊎ (((i ≡ j) × (a ≡ b)) ⊎ Earlier j b i a)
@@ -117,20 +117,6 @@ naming-one {t} {i} {a} {j} {b} {k} F G =
     (λ h. absurd (G .first i a h (F .leads)))
     (λ o. ⊎-elim (λ e. e) (λ h. absurd (F .first j b h (G .leads))) o)
     (pairs-compared i a j b)
-
--- v is w or sooner
-abbrev NoLater : List ℕ → List ℕ → Type 0
-NoLater v w = (v ≡ w) ⊎ Sooner v w
-
-no-later-trans : {u v w : List ℕ} → NoLater u v → NoLater v w → NoLater u w
-no-later-trans {u} {v} {w} (inl e) (inl q) = inl (e ∙ q)
-no-later-trans {u} {v} {w} (inl e) (inr q) = inr (subst (λ (l : List ℕ). Sooner l w) (sym e) q)
-no-later-trans {u} {v} {w} (inr p) (inl q) = inr (subst (Sooner u) q p)
-no-later-trans {u} {v} {w} (inr p) (inr q) = inr (sooner-trans p q)
-
-no-later-snoc : {v w : List ℕ} (a : ℕ) → NoLater v w → NoLater (v ++ (a ∷ [])) (w ++ (a ∷ []))
-no-later-snoc a (inl e) = inl (ap (λ (l : List ℕ). l ++ (a ∷ [])) e)
-no-later-snoc a (inr p) = inr (sooner-snoc a a p)
 
 module _ {t : System ℕ} {n : ℕ} (N : NumberedAsNamed t n) where
   -- each number but 0 has a first naming,
@@ -246,7 +232,7 @@ module _ {t : System ℕ} {n : ℕ} (N : NumberedAsNamed t n) where
       go (some y) p f =
           let b = N .closed a i y h p in
           let (z, Z) = along-some y b in
-          subst (λ (r : List ℕ). NoLater w r) (append-assoc u (a ∷ []) v) (f y z b (ap (after i) p) Z (no-later-trans (along-step h X p Z) (no-later-snoc a l)))
+          subst (λ (r : List ℕ). NoLater w r) (append-assoc u (a ∷ []) v) (f y z b (ap (after i) p) Z (no-later-trans (along-step h X p Z) (no-later-append (a ∷ []) l)))
 
   pub along-first : {k : ℕ} {w : List ℕ} → k < n → Along t k w → (v : List ℕ) → ended t v 0 ≡ k → Sooner v w → ⊥
   along-first {k} {w} h W v e r =

@@ -137,6 +137,33 @@ count-is p (suc n) k h f g =
     count-failed p n (is-false (p n) (g n b (omega arith))) ∙ count-is p n k b f (λ i a m t. g i a (omega arith) t))
     (eq-or-lt-of-le h)
 
+-- the count of a test that some number below n passes is not 0
+pub count-some : (p : ℕ → Bool) (n i : ℕ) → i < n → T (p i) → 0 < count p n
+count-some p zero i h t = absurd (not-suc-le-zero h)
+count-some p (suc n) i h t =
+    ⊎-elim
+    (λ e. omega (arith, count-passed p n (is-true (p n) (subst (λ (k : ℕ). T (p k)) e t))))
+    (λ l. let r = count-some p n i l t in ⊎-elim (λ d. omega (arith, count-passed p n d)) (λ d. omega (arith, count-failed p n d)) (told (p n)))
+    (below-suc h)
+
+-- a number that passes one of two tests and not the other, which agree elsewhere, makes one count greater by one
+pub count-less : (p q : ℕ → Bool) (n i : ℕ) → i < n → p i ≡ true → q i ≡ false → ((k : ℕ) → k < n → (k ≡ i → ⊥) → p k ≡ q k) → count p n ≡ suc (count q n)
+count-less p q zero i h a b e = absurd (not-suc-le-zero h)
+count-less p q (suc n) i h a b e =
+    ⊎-elim
+    (λ z.
+    let x = count-passed p n (ap p (sym z) ∙ a) in
+    let y = count-failed q n (ap q (sym z) ∙ b) in
+    omega (arith, count-ext p q n (λ k l. e k (omega arith) (λ d. omega arith))))
+    (λ l.
+    let r = count-less p q n i l a b (λ k m d. e k (omega arith) d) in
+    let z = e n (omega arith) (λ d. omega arith) in
+    ⊎-elim
+    (λ d. omega (arith, count-passed q n d, count-passed p n (z ∙ d)))
+    (λ d. omega (arith, count-failed q n d, count-failed p n (z ∙ d)))
+    (told (q n)))
+    (below-suc h)
+
 pub least-here : (p : ℕ → Bool) (n : ℕ) → p zero ≡ true → least p (suc n) ≡ zero
 unfolding least
 least-here p n e = rw (e, least)

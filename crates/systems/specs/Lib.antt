@@ -10,6 +10,7 @@ pub mod Entries
 pub mod Former
 pub mod Counting
 pub mod Moore
+pub mod Beside
 pub mod Pigeonhole
 pub mod Places
 pub mod Explored

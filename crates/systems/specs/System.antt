@@ -1,8 +1,10 @@
 -- Deterministic partial transition systems and what is read on them.
 use Prim.Native.Nat.{ℕ, suc, _<_}
 use mathlib.Core.Path.{_≡_}
+use mathlib.Core.Bool.{Bool, true, false, _&&_}
 use mathlib.Core.List.{List, [], _∷_}
 use mathlib.Core.Option.{Option, some, none, Option·map}
+use lib.Dec.{eqb}
 
 -- A transition system (definition 2.1 of source 000, deterministic and partial as in source 002): the label of a configuration
 -- stands for its block of the initial partition; an action gives the next configuration, or none where it is barred.
@@ -40,6 +42,24 @@ firstBarred s (a ∷ w) x = earliest (s .step a x) (firstBarred s w (after x (s 
 pub record Reading : Type 0 where
   pub entries : List ℕ
   pub barred : Option ℕ
+
+-- two lists have the same numbers in the same order
+unfoldable pub sameNumbers : List ℕ → List ℕ → Bool
+sameNumbers [] [] = true
+sameNumbers [] (y ∷ m) = false
+sameNumbers (x ∷ l) [] = false
+sameNumbers (x ∷ l) (y ∷ m) = eqb x y && sameNumbers l m
+
+-- the same index, or none in both
+unfoldable pub sameIndex : Option ℕ → Option ℕ → Bool
+sameIndex none none = true
+sameIndex none (some j) = false
+sameIndex (some i) none = false
+sameIndex (some i) (some j) = eqb i j
+
+-- whether two readings are equal (document 01): the same entries in the same order, and the same first barred index, or none in both
+unfoldable pub sameReading : Reading → Reading → Bool
+sameReading r q = sameNumbers (r .entries) (q .entries) && sameIndex (r .barred) (q .barred)
 
 -- the reading of an action sequence from a configuration, of whatever length: the label there, and an entry for each action
 unfoldable pub reading : {X : Type 0} → System X → List ℕ → X → Reading

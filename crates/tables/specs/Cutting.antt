@@ -13,10 +13,10 @@ use Rattle.sheet_bytes.specs.declared.Ranges.{Ranges}
 use Rattle.sheet_bytes.specs.declared.Rules.{Rules}
 use Rattle.sheet_bytes.specs.Bounds.{RangesWithin, RulesFit}
 use Rattle.sheet_bytes.specs.Cuts.{cutThree, cutsThree}
-use Rattle.tables.specs.Arrays.{rangesIn, sourceIn, putRanges}
-use Rattle.tables.specs.Marks.{RaisedTo}
-use Rattle.tables.specs.Padding.{PaddedRanges, PaddedRules, one-cut}
-use Rattle.tables.specs.Sources.{LoweredAt, Noting, Opening, opening}
+use Rattle.table_rows.specs.Arrays.{rangesIn, sourceIn, putRanges}
+use Rattle.table_rows.specs.Marks.{RaisedTo}
+use Rattle.table_rows.specs.Padding.{PaddedRanges, PaddedRules, one-cut}
+use Rattle.table_rows.specs.Sources.{LoweredAt, Noting, Opening, opening}
 
 -- an answer whether two things are the same
 pub record Same {A : Type 0} (x y : A) (r : Bool) : Type 0 where

@@ -1,8 +1,2 @@
-pub mod Arrays
-pub mod Marks
-pub mod Depths
-pub mod Sources
-pub mod Meaning
 pub mod Growth
-pub mod Padding
 pub mod Cutting

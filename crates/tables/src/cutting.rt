@@ -3,17 +3,17 @@ ghost use mathlib.Core.Path.{_≡_};
 ghost use Prim.Native.Nat.{_+_, _*_, _<_, _≤_};
 ghost use lib.ListN.{set};
 ghost use Rattle.sheet_bytes.specs.Cuts.{cutsThree};
-ghost use Rattle.tables.specs.Arrays.{CellsRoom, TargetsRoom, FlagsRoom, BoundsRoom, rangesIn};
+ghost use Rattle.table_rows.specs.Arrays.{CellsRoom, TargetsRoom, FlagsRoom, BoundsRoom, rangesIn};
 ghost use Rattle.tables.specs.Cutting.{Same, Cuttable, CutRow, Settled};
-use crate::marks::raise;
-use crate::rows::put_ranges;
-use crate::rows::ranges_in;
-use crate::sources::lower;
 use integers::Range;
 use sheet_bytes::Ranges;
 use sheet_bytes::Rules;
 use sheet_bytes::Shape;
 use sheet_bytes::cutting::cut_by;
+use table_rows::marks::raise;
+use table_rows::rows::put_ranges;
+use table_rows::rows::ranges_in;
+use table_rows::sources::lower;
 
 pub fn same_range(a: Range, b: Range) -> bool
     ensures { λ r. ⌜ Same a b r ⌝ }

@@ -4,21 +4,21 @@ ghost use Prim.Native.Nat.{_<_, _≤_};
 ghost use Rattle.model.specs.Sheet.{Covered};
 ghost use Rattle.sheet_bytes.specs.Decode.{decode};
 ghost use Rattle.sheet_bytes.specs.Three.{configMeant};
-ghost use Rattle.tables.specs.Arrays.{CellsRoom, HomesRoom, FlagsRoom, BoundsRoom};
-ghost use Rattle.tables.specs.Marks.{RowRaised};
-ghost use Rattle.tables.specs.Sources.{Begun};
-ghost use Rattle.tables.specs.Meaning.{Ready, newCells, newHomes};
-ghost use Rattle.tables.specs.Growth.{RowFor, RowsWith};
-use crate::marks::raise_row;
-use crate::rows::put_home;
-use crate::rows::put_ranges;
-use crate::rows::put_values;
-use crate::search::find;
-use crate::sources::begin_row;
+ghost use Rattle.table_rows.specs.Arrays.{CellsRoom, HomesRoom, FlagsRoom, BoundsRoom};
+ghost use Rattle.table_rows.specs.Marks.{RowRaised};
+ghost use Rattle.table_rows.specs.Sources.{Begun};
+ghost use Rattle.table_rows.specs.Meaning.{Ready};
+ghost use Rattle.tables.specs.Growth.{newCells, newHomes, RowFor, RowsWith};
 use sheet_bytes::Config;
 use sheet_bytes::Shape;
 use sheet_bytes::fields::box_at;
 use sheet_bytes::space::region_of;
+use table_rows::marks::raise_row;
+use table_rows::rows::put_home;
+use table_rows::rows::put_ranges;
+use table_rows::rows::put_values;
+use table_rows::search::find;
+use table_rows::sources::begin_row;
 
 // Stores the configuration as row n, with the box of its region, raises its flags, and begins its bounds.
 pub fn append(

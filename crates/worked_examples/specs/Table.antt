@@ -1,5 +1,5 @@
--- The worked examples of document 01, and some of document 02 (ways of U1, version 2 of U4, depths of U6, counts of U13), computed on the definitions: a
--- row for each, one test over the table, one proof.
+-- The worked examples of document 01, and some of document 02 (ways of U1, evidence of U2, version 2 of U4, depths of U6, counts of U13), computed on the
+-- definitions: a row for each, one test over the table, one proof.
 use mathlib.Core.Bool.{Bool, true, false, _&&_}
 use mathlib.Core.List.{List, [], _∷_}
 use mathlib.Core.Option.{Option, some, none}
@@ -16,7 +16,7 @@ use Rattle.integers.specs.LittleEndian.{joined, unsignedAt, signedOf, signedAt,
 use Rattle.systems.specs.Search.{run, count, least}
 use Rattle.systems.specs.Counting as counting
 use Rattle.systems.specs.Lists.{collect}
-use Rattle.systems.specs.System.{after, entry, written, earliest, firstBarred, reading}
+use Rattle.systems.specs.System.{after, entry, written, earliest, firstBarred, sameNumbers, sameIndex, sameReading, reading}
 use Rattle.systems.specs.Words.{ended, listsBelow, shorterLists, firstThat}
 use Rattle.systems.specs.Exploration.{place, known, added, visited, visitedAt, visitedNext, explore}
 use Rattle.answers.specs.declared.Checked.{Checked}
@@ -25,7 +25,7 @@ use Rattle.answers.specs.Stages.{andThen, demand}
 use Rattle.model.specs.declared.Rule.the-variants.{Carry}
 use Rattle.model.specs.Sheet.{Move, Barred, Open, Region, Sheet, within, inBox, placeIn, regionNumber, regionOf, applied, updated, landing, moved, step, sheetSystem, sheetReading}
 use Rattle.model.specs.Blocks.{emptied, cut, cuts, preimage, narrowed, classBox, volume, volumes, configurations, classOf, sameClass, blocks, targetByte, chartRecord, chartOf, rangeBytes, boxRecord, boxListOf}
-use Rattle.model.specs.Chart.{recordAt, labelOf, targetOf, sameTarget, refines, roundClass}
+use Rattle.model.specs.Chart.{recordAt, labelOf, targetOf, blockNamed, chartStep, chartSystem, chartReading, sameTarget, refines, roundClass}
 use Rattle.model.specs.ChartDepth.{parts, depthOf, labelCount, depthLimit}
 use Rattle.model.specs.Listing.{numbers, numbersIn, prefixed, valuesIn, members}
 use Rattle.sheet_bytes.specs.Layout.{versionOf, wide, boundSize, offsetLimit, moveSize, regionSize, startPlace, startValue, regionPlace, labelAt, stateAt, lowPlace, highPlace, movePlace, rulePlace, factorOf, offsetOf}
@@ -33,6 +33,7 @@ use Rattle.sheet_bytes.specs.Decode.{ruleOf, moveOf, rangeAt, boxAt, moveAt, re
 use Rattle.sheet_form.specs.Form.{sameBytes, checkHeader, checkCounts, checkLength, checkValue, checkBound, checkRule, checkZeroRule, checkMove, checkFields, checkLimits}
 use Rattle.congruence.specs.Congruence.{total, firstSolution, allBelow, allowed, eight, given, countsLeft}
 use Rattle.access_sequence.specs.Access.{leadsInto, orEmpty, wayTo}
+use Rattle.separating_sequence.specs.Separation.{partsCharts, evidence}
 use Rattle.sheet.specs.Check.{checkLabel, overlap, checkOverlap, checkStart, every, lands, checkLanding, sheetCheck}
 
 -- one example: what is computed, and what document 01 says it is
@@ -53,23 +54,19 @@ pub data Row : Type 0 where
   depth-row : List ℕ → ℕ → ℕ → Row
   -- a sheet, a block of its chart, and the way to it
   way-row : Sheet → ℕ → List ℕ → Row
+  -- two charts, and the sequence that parts them, or none where they are equal in behaviour
+  part-row : List ℕ → List ℕ → Option (List ℕ) → Row
   -- a counter that goes round: modulus, start, wanted value and increments, and the eight counts, or no list where they are left as they were
   counts-row : ℕ → ℕ → ℕ → List ℕ → List ℕ → Row
 
 pub sameZ : ℤ → ℤ → Bool
 sameZ a b = leZ a b && leZ b a
 
-pub sameList : List ℕ → List ℕ → Bool
-sameList [] [] = true
-sameList [] (y ∷ l) = false
-sameList (x ∷ k) [] = false
-sameList (x ∷ k) (y ∷ l) = eqb x y && sameList k l
-
-pub sameOption : Option ℕ → Option ℕ → Bool
-sameOption none none = true
-sameOption none (some y) = false
-sameOption (some x) none = false
-sameOption (some x) (some y) = eqb x y
+pub sameWord : Option (List ℕ) → Option (List ℕ) → Bool
+sameWord none none = true
+sameWord none (some w) = false
+sameWord (some v) none = false
+sameWord (some v) (some w) = sameNumbers v w
 
 pub sameChecked : Checked → Checked → Bool
 sameChecked Fine Fine = true
@@ -79,19 +76,24 @@ sameChecked (Refused m q) (Refused n p) = eqb m n && eqb q p
 
 pub test : Row → Bool
 test (inverse-row f b r q) = sameZ (inverse f b r .low) (q .low) && sameZ (inverse f b r .high) (q .high)
-test (chart-row s l) = sameList (chartOf s) l
-test (accepted-row s l) = sameChecked (sheetCheck s) Fine && sameList (chartOf (decode s)) l
+test (chart-row s l) = sameNumbers (chartOf s) l
+test (accepted-row s l) = sameChecked (sheetCheck s) Fine && sameNumbers (chartOf (decode s)) l
 test (refused-row s n p) = sameChecked (sheetCheck s) (Refused n p)
-test (boxes-row n s l) = sameList (boxListOf n s) l
-test (reading-row s w l b) = sameList (sheetReading s w .entries) l && sameOption (sheetReading s w .barred) b
+test (boxes-row n s l) = sameNumbers (boxListOf n s) l
+test (reading-row s w l b) = sameNumbers (sheetReading s w .entries) l && sameIndex (sheetReading s w .barred) b
 test (depth-row c d n) = eqb (depthOf c) d && eqb (depthLimit c) n
-test (way-row s k w) = sameList (wayTo s k) w
-test (counts-row m s w xs l) = sameList (countsLeft m s w xs []) l
+test (way-row s k w) = sameNumbers (wayTo s k) w
+test (part-row c d o) = sameWord (evidence c d) o
+test (counts-row m s w xs l) = sameNumbers (countsLeft m s w xs []) l
 
 -- every row passes
 pub passes : List Row → Bool
 passes [] = true
 passes (r ∷ l) = test r && passes l
+
+-- a chart by its number of actions, its number of blocks and its records
+pub chart : ℕ → ℕ → List ℕ → List ℕ
+chart actions blocks records = 66 ∷ 67 ∷ 72 ∷ 1 ∷ 0 ∷ actions ∷ blocks ∷ records
 
 -- sheets of one counter, one action and one state: each region has a label, bounds and a move
 pub region : ℕ → ℤ → ℤ → Move → Region
@@ -193,6 +195,16 @@ table =
     -- a chain of four blocks; a ring of four, which one action tells apart, where two labels would allow a depth of two
     ∷ depth-row (66 ∷ 67 ∷ 72 ∷ 1 ∷ 0 ∷ 1 ∷ 4 ∷ 10 ∷ 0 ∷ 1 ∷ 10 ∷ 0 ∷ 2 ∷ 10 ∷ 0 ∷ 3 ∷ 20 ∷ 0 ∷ 255 ∷ []) 2 2
     ∷ depth-row (66 ∷ 67 ∷ 72 ∷ 1 ∷ 0 ∷ 1 ∷ 4 ∷ 10 ∷ 0 ∷ 1 ∷ 10 ∷ 0 ∷ 2 ∷ 20 ∷ 0 ∷ 3 ∷ 20 ∷ 0 ∷ 0 ∷ []) 1 2
+    -- P1's chart beside itself; beside one whose block 0 leads to the last label at once; beside one with another label at block 0
+    ∷ part-row (chart 1 3 (10 ∷ 0 ∷ 1 ∷ 10 ∷ 0 ∷ 2 ∷ 20 ∷ 0 ∷ 255 ∷ [])) (chart 1 3 (10 ∷ 0 ∷ 1 ∷ 10 ∷ 0 ∷ 2 ∷ 20 ∷ 0 ∷ 255 ∷ [])) none
+    ∷ part-row (chart 1 3 (10 ∷ 0 ∷ 1 ∷ 10 ∷ 0 ∷ 2 ∷ 20 ∷ 0 ∷ 255 ∷ [])) (chart 1 2 (10 ∷ 0 ∷ 1 ∷ 20 ∷ 0 ∷ 255 ∷ [])) (some (0 ∷ []))
+    ∷ part-row (chart 1 3 (10 ∷ 0 ∷ 1 ∷ 10 ∷ 0 ∷ 2 ∷ 20 ∷ 0 ∷ 255 ∷ [])) (chart 1 1 (20 ∷ 0 ∷ 255 ∷ [])) (some [])
+    -- charts of one block: an action that is barred in one alone needs N1 + N2 - 1 actions
+    ∷ part-row (chart 1 1 (10 ∷ 0 ∷ 0 ∷ [])) (chart 1 1 (10 ∷ 0 ∷ 255 ∷ [])) (some (0 ∷ []))
+    -- rings of two and three blocks whose labels agree for three entries and no longer: N1 + N2 - 2 actions
+    ∷ part-row (chart 1 2 (10 ∷ 0 ∷ 1 ∷ 20 ∷ 0 ∷ 0 ∷ [])) (chart 1 3 (10 ∷ 0 ∷ 1 ∷ 20 ∷ 0 ∷ 2 ∷ 10 ∷ 0 ∷ 0 ∷ [])) (some (0 ∷ 0 ∷ 0 ∷ []))
+    -- charts that 0, 1 and 1, 1 part, and many longer sequences
+    ∷ part-row (chart 2 2 (10 ∷ 0 ∷ 1 ∷ 1 ∷ 20 ∷ 0 ∷ 255 ∷ 0 ∷ [])) (chart 2 3 (10 ∷ 0 ∷ 1 ∷ 1 ∷ 20 ∷ 0 ∷ 255 ∷ 2 ∷ 30 ∷ 0 ∷ 255 ∷ 255 ∷ [])) (some (0 ∷ 1 ∷ []))
     -- P1 as version 2: the same chart, and bounds of four bytes
     ∷ accepted-row wideBytes (66 ∷ 67 ∷ 72 ∷ 1 ∷ 0 ∷ 1 ∷ 3 ∷ 10 ∷ 0 ∷ 1 ∷ 10 ∷ 0 ∷ 2 ∷ 20 ∷ 0 ∷ 255 ∷ [])
     ∷ boxes-row 4 mirror (0 ∷ 248 ∷ 255 ∷ 255 ∷ 255 ∷ 7 ∷ 0 ∷ 0 ∷ 0 ∷ [])
@@ -222,5 +234,5 @@ table =
     ∷ []
 
 pub worked-examples : T (passes table)
-unfolding passes test table sameZ sameList sameOption sameChecked bytes wideBytes changed region twoMoves carry sheet first mirror doubling steps range smaller larger contains meet size floorBy floor ceiling inverse split bitsOf collect after entry written earliest firstBarred reading place known added visited visitedAt visitedNext explore within inBox placeIn regionNumber regionOf applied updated landing moved step sheetSystem sheetReading emptied cut cuts preimage narrowed classBox volume volumes configurations classOf sameClass blocks targetByte chartRecord chartOf rangeBytes boxRecord boxListOf joined unsignedAt signedOf signedAt vacant run andThen demand numbers numbersIn prefixed valuesIn members versionOf wide boundSize offsetLimit moveSize regionSize startPlace startValue regionPlace labelAt stateAt lowPlace highPlace movePlace rulePlace factorOf offsetOf ruleOf moveOf rangeAt boxAt moveAt regionAt startOf decode sameBytes checkHeader checkCounts checkLength checkValue checkBound checkRule checkZeroRule checkMove checkFields checkLimits checkLabel overlap checkOverlap checkStart every lands checkLanding sheetCheck count least counting.numbers counting.has counting.classes recordAt labelOf targetOf sameTarget refines roundClass parts depthOf labelCount depthLimit total listsBelow firstThat firstSolution allBelow allowed eight given countsLeft ended shorterLists leadsInto orEmpty wayTo
+unfolding passes test table sameZ sameWord sameChecked chart sameNumbers sameIndex sameReading partsCharts evidence blockNamed chartStep chartSystem chartReading bytes wideBytes changed region twoMoves carry sheet first mirror doubling steps range smaller larger contains meet size floorBy floor ceiling inverse split bitsOf collect after entry written earliest firstBarred reading place known added visited visitedAt visitedNext explore within inBox placeIn regionNumber regionOf applied updated landing moved step sheetSystem sheetReading emptied cut cuts preimage narrowed classBox volume volumes configurations classOf sameClass blocks targetByte chartRecord chartOf rangeBytes boxRecord boxListOf joined unsignedAt signedOf signedAt vacant run andThen demand numbers numbersIn prefixed valuesIn members versionOf wide boundSize offsetLimit moveSize regionSize startPlace startValue regionPlace labelAt stateAt lowPlace highPlace movePlace rulePlace factorOf offsetOf ruleOf moveOf rangeAt boxAt moveAt regionAt startOf decode sameBytes checkHeader checkCounts checkLength checkValue checkBound checkRule checkZeroRule checkMove checkFields checkLimits checkLabel overlap checkOverlap checkStart every lands checkLanding sheetCheck count least counting.numbers counting.has counting.classes recordAt labelOf targetOf sameTarget refines roundClass parts depthOf labelCount depthLimit total listsBelow firstThat firstSolution allBelow allowed eight given countsLeft ended shorterLists leadsInto orEmpty wayTo
 worked-examples = tt

@@ -22,8 +22,8 @@ use Rattle.refinement.specs.Completed.{boxBytes, tableBoxes}
 use Rattle.sheet_bytes.specs.declared.Shape.{Shape}
 use Rattle.sheet_bytes.specs.Shape.{TwoOrFour, width-few, bounds-le}
 use Rattle.sheet_bytes.specs.Three.{firsts, rangesMeant, boxMeant}
-use Rattle.tables.specs.Arrays.{rangeIn, rangesIn, stateIn, boxIn}
-use Rattle.tables.specs.Meaning.{rowIn}
+use Rattle.table_rows.specs.Arrays.{rangeIn, rangesIn, stateIn, boxIn}
+use Rattle.table_rows.specs.Meaning.{rowIn}
 use Rattle.writing.specs.Numbers.{entryIn}
 use Rattle.writing.specs.Stored.{stored, stored-one, stored-behind, stored-front, rows-le}
 

@@ -23,8 +23,8 @@ use Rattle.sheet_bytes.specs.Decode as Decode
 use Rattle.sheet_bytes.specs.Decode.{decode, rangeAt, boxAt}
 use Rattle.sheet_bytes.specs.Bounds.{each-listed, range-held}
 use Rattle.sheet_bytes.specs.Three.{firsts, rangesMeant, configMeant}
-use Rattle.tables.specs.Arrays.{rangeIn, rangesIn, configIn, targetIn}
-use Rattle.tables.specs.Meaning.{Ready, rowIn, region-listed, covered-few}
+use Rattle.table_rows.specs.Arrays.{rangeIn, rangesIn, configIn, targetIn}
+use Rattle.table_rows.specs.Meaning.{Ready, rowIn, region-listed, covered-few}
 use Rattle.minimize.specs.State.{counters-few, actions-decoded}
 use Rattle.minimize.specs.Steps.{Table}
 use Rattle.writing.specs.Numbers.{entryIn, Walkable}

@@ -3,7 +3,8 @@ use Prim.Native.Nat.{ℕ}
 use native.Mathlib.Omega.{arith}
 use Rattle.answers.specs.Stages.{andThen, stop, go-on}
 use Rattle.chart_bytes.specs.HeaderLaws.{header-passed}
-use Rattle.chart.specs.Check.{limitsCheck, numbersCheck, barsCheck, formCheck}
+use Rattle.chart_form.specs.Form.{limitsCheck, numbersCheck, barsCheck}
+use Rattle.chart.specs.Check.{formCheck}
 use borrow.Author.Needs.{needs}
 use Rattle.chart.proofs.check_form.Statement.{statement}
 use Rattle.chart.proofs.check_form.Tie as tie

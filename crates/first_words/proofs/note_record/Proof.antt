@@ -35,6 +35,9 @@ target-of-requires c κs =
 cast-records : tie.Need-cast-records Inv-loop μ-loop
 cast-records c = let s = c .before .before .before .before .before .before .before in omega (arith, s .pre .0 .blocks-few, s .pre .1 .0)
 
+mul-records : tie.Need-mul-records Inv-loop μ-loop
+mul-records c = omega (arith, c .target-of .ensures .1)
+
 slice-write-records : tie.Need-slice-write-records Inv-loop μ-loop
 slice-write-records c = omega (arith, c .before .before .loop .inv .1, c .target-of .ensures .1)
 
@@ -84,6 +87,7 @@ note-record-spec =
     sub-a
     target-of-requires
     cast-records
+    mul-records
     slice-write-records
     cast-actions
     slice-write-actions

@@ -1,14 +1,10 @@
 use borrow.Author.Needs.{needs}
 use native.Mathlib.Omega.{arith}
 use lib.ListN.{length}
-use Rattle.first_words.specs.Notes.{notedWord, noted-falling, noted-along, noted-room}
+use Rattle.noted_words.specs.Words.{notedWord}
+use Rattle.first_words.specs.Notes.{noted-falling, noted-along, noted-room}
 use Rattle.first_words.proofs.write_first_word.Statement.{statement}
 use Rattle.first_words.proofs.write_first_word.Tie as tie
-use Rattle.first_words.proofs.write_first_word.Reads as reads
-use Rattle.first_words.proofs.write_first_word.Lts as lts
-use Rattle.first_words.proofs.note_all.Reads as note-all-reads
-use Rattle.first_words.proofs.word_length.Reads as word-length-reads
-use Rattle.first_words.proofs.write_word.Reads as write-word-reads
 
 slice-aggregate-note-all : tie.Need-slice-aggregate-note-all
 slice-aggregate-note-all c = search needs
@@ -27,8 +23,8 @@ word-length-requires c κs =
     let s = c .before .before .before .before .before .before .before .before in
     let n = c .before .before .before .note-all in
     let few = s .pre .0 .blocks-few in (
-      c .before .before .records2 .given,
-      (omega (arith, few, s .pre .1 .1 .0), noted-falling (s .args .c .now) (n .last .1 .0) (n .last .1 .1 .0) (s .pre .1 .0) few (n .ensures) (s .args .k) (s .pre .1 .1 .0)),
+      omega (arith, c .before .before .records2 .given, few, s .pre .1 .1 .0),
+      noted-falling (s .args .c .now) (n .last .1 .0) (n .last .1 .1 .0) (s .pre .1 .0) few (n .ensures) (s .args .k) (s .pre .1 .1 .0),
     )
 
 slice-aggregate-write-word : tie.Need-slice-aggregate-write-word
@@ -45,12 +41,13 @@ write-word-requires c κs =
     let rs = n .last .1 .0 in
     let bs = n .last .1 .1 .0 in
     let few = s .pre .0 .blocks-few in
-    let e = c .before .before .before .word-length .ensures bs in (
-      c .before .before .before .before .before .before .records2 .given,
+    let e = c .before .before .before .word-length .ensures bs in
+    let lr = c .before .before .before .before .before .before .records2 .given in (
+      omega (arith, lr, few, s .pre .1 .1 .0),
       (
-        c .before .before .before .before .before .actions2 .given,
+        omega (arith, lr, c .before .before .before .before .before .actions2 .given),
         (
-          (omega (arith, few, s .pre .1 .1 .0), noted-falling chart rs bs (s .pre .1 .0) few (n .ensures) (s .args .k) (s .pre .1 .1 .0)),
+          noted-falling chart rs bs (s .pre .1 .0) few (n .ensures) (s .args .k) (s .pre .1 .1 .0),
           (e, omega (arith, e, noted-room chart rs bs (s .pre .1 .0) few (n .ensures) (s .args .k) (length (s .args .out .now)) (s .pre .1 .1 .0) (s .pre .1 .1 .1))),
         ),
       ),

@@ -2,7 +2,7 @@ use native.Mathlib.Omega.{arith}
 use Prim.Native.Nat.{_+_, _*_}
 use mathlib.Core.Path.{refl, _∙_}
 use Rattle.sheet_bytes.specs.Space.{landThree}
-use Rattle.tables.specs.Padding.{rules-safe}
+use Rattle.table_rows.specs.Padding.{rules-safe}
 use Rattle.tables.specs.Growth.{row-few}
 use Rattle.minimize.specs.State.{counters-some, counters-few, actions-few}
 use Rattle.minimize.specs.Steps.{values-known, next-covered, placed, led-many}
@@ -12,7 +12,7 @@ use Rattle.sheet_bytes.proofs.space.land.Reads as land-reads
 use Rattle.tables.proofs.cutting.settle.Reads as settle-reads
 use Rattle.tables.proofs.growth.row_for.Reads as row-for-reads
 use Rattle.tables.proofs.growth.rows_with.Reads as rows-with-reads
-use Rattle.tables.proofs.rows.config_in.Reads as config-in-reads
+use Rattle.table_rows.proofs.rows.config_in.Reads as config-in-reads
 
 mul-last : tie.Need-mul-last
 mul-last c = let start = c .before .before .before .before .before in omega (arith, start .pre .1 .0 .working .few, start .pre .1 .1 .0, actions-few (start .pre .0))

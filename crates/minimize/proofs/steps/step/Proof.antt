@@ -6,7 +6,7 @@ use borrow.Author.Needs.{needs}
 use Rattle.minimize.proofs.steps.step.Statement.{statement}
 use Rattle.minimize.proofs.steps.step.Tie as tie
 use Rattle.minimize.proofs.steps.lead.Reads as lead-reads
-use Rattle.tables.proofs.search.move_in.Reads as move-in-reads
+use Rattle.table_rows.proofs.search.move_in.Reads as move-in-reads
 
 mul-if1 : tie.Need-mul-if1
 mul-if1 c = let start = c .before .before .before .before .before in omega (arith, start .pre .1 .0 .working .few, start .pre .1 .1, actions-few (start .pre .0))

@@ -6,7 +6,7 @@ use Rattle.minimize.specs.Steps.{Turning, turning-begin, turning-same, t
 use Rattle.minimize.proofs.steps.turn.Statement.{statement}
 use Rattle.minimize.proofs.steps.turn.Tie as tie
 use Rattle.minimize.proofs.steps.step.Reads as step-reads
-use Rattle.tables.proofs.depths.deepen.Reads as deepen-reads
+use Rattle.table_rows.proofs.depths.deepen.Reads as deepen-reads
 
 abbrev Inv-loop : tie.InvT-loop
 Inv-loop s shape cells₀ homes₀ targets₀ flags₀ bounds₀ n i a₀ a-end cells homes targets flags bounds a = (a ≤ a-end) × Turning s shape cells₀ homes₀ targets₀ flags₀ bounds₀ n cells homes targets flags bounds i a n

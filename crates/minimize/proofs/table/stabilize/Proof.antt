@@ -8,9 +8,9 @@ use Rattle.minimize.proofs.table.stabilize.Statement.{statement}
 use Rattle.minimize.proofs.table.stabilize.Tie as tie
 use Rattle.depth_bound.proofs.exact_depth.Reads as exact-depth-reads
 use Rattle.minimize.proofs.table.sweep.Reads as sweep-reads
-use Rattle.tables.proofs.depths.depth_after.Reads as depth-after-reads
-use Rattle.tables.proofs.depths.sure_depth.Reads as sure-depth-reads
-use Rattle.tables.proofs.marks.last_raised.Reads as last-raised-reads
+use Rattle.table_rows.proofs.depths.depth_after.Reads as depth-after-reads
+use Rattle.table_rows.proofs.depths.sure_depth.Reads as sure-depth-reads
+use Rattle.table_rows.proofs.marks.last_raised.Reads as last-raised-reads
 
 abbrev Inv-loop : tie.InvT-loop
 Inv-loop s shape cells₀ homes₀ targets₀ flags₀ bounds₀ m n₀ depth₀ before₀ cells homes targets flags bounds n depth before = Sweeping s shape cells homes targets flags bounds n m depth before

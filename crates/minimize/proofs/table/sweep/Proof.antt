@@ -2,13 +2,13 @@ use native.Mathlib.Omega.{arith}
 use Prim.Native.Nat.{_+_, _-_, _≤_}
 use mathlib.Core.Path.{sym, _∙_}
 use lib.ListN.{length-set}
-use Rattle.tables.specs.Arrays.{freshIn}
+use Rattle.table_rows.specs.Arrays.{freshIn}
 use Rattle.minimize.specs.State.{actions-few}
 use Rattle.minimize.specs.Passes.{Passing, pass-begin, pass-down, pass-turned, swept-new, swept}
 use Rattle.minimize.proofs.table.sweep.Statement.{statement}
 use Rattle.minimize.proofs.table.sweep.Tie as tie
 use Rattle.minimize.proofs.steps.turn.Reads as turn-reads
-use Rattle.tables.proofs.marks.any_raised.Reads as any-raised-reads
+use Rattle.table_rows.proofs.marks.any_raised.Reads as any-raised-reads
 
 abbrev Inv-loop : tie.InvT-loop
 Inv-loop s shape cells₀ homes₀ targets₀ flags₀ bounds₀ n last k₀ cells homes targets flags bounds k = (k ≤ last + 1) × Passing s shape cells₀ homes₀ flags₀ n cells homes targets flags bounds k

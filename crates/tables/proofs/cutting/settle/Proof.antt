@@ -3,15 +3,15 @@ use Prim.Native.Nat.{_+_, _*_}
 use mathlib.Core.Path.{refl, _∙_}
 use borrow.Author.Tests.{not-true, not-false}
 use lib.ListN.{length-set}
-use Rattle.tables.specs.Marks.{raised-nobody}
-use Rattle.tables.specs.Sources.{noting}
+use Rattle.table_rows.specs.Marks.{raised-nobody}
+use Rattle.table_rows.specs.Sources.{noting}
 use Rattle.tables.specs.Cutting.{settled-same, settled-raised}
 use borrow.Author.Needs.{needs}
 use Rattle.tables.proofs.cutting.settle.Statement.{statement}
 use Rattle.tables.proofs.cutting.settle.Tie as tie
 use Rattle.tables.proofs.cutting.cut_row.Reads as cut-row-reads
-use Rattle.tables.proofs.marks.raise.Reads as raise-reads
-use Rattle.tables.proofs.sources.lower.Reads as lower-reads
+use Rattle.table_rows.proofs.marks.raise.Reads as raise-reads
+use Rattle.table_rows.proofs.sources.lower.Reads as lower-reads
 
 cast-targets : tie.Need-cast-targets
 cast-targets c = search needs

@@ -1,18 +1,19 @@
 use native.Mathlib.Omega.{arith}
 use mathlib.Core.Path.{refl}
 use Rattle.sheet_bytes.specs.Three.{configMeant}
-use Rattle.tables.specs.Meaning.{covered-few, cells-new, homes-new}
+use Rattle.table_rows.specs.Meaning.{covered-few}
+use Rattle.tables.specs.Growth.{cells-new, homes-new}
 use borrow.Author.Needs.{needs}
 use borrow.Author.Needs.{needs}
 use Rattle.tables.proofs.growth.append.Statement.{statement}
 use Rattle.tables.proofs.growth.append.Tie as tie
 use Rattle.sheet_bytes.proofs.fields.box_at.Reads as box-at-reads
 use Rattle.sheet_bytes.proofs.space.region_of.Reads as region-of-reads
-use Rattle.tables.proofs.marks.raise_row.Reads as raise-row-reads
-use Rattle.tables.proofs.rows.put_home.Reads as put-home-reads
-use Rattle.tables.proofs.rows.put_ranges.Reads as put-ranges-reads
-use Rattle.tables.proofs.rows.put_values.Reads as put-values-reads
-use Rattle.tables.proofs.sources.begin_row.Reads as begin-row-reads
+use Rattle.table_rows.proofs.marks.raise_row.Reads as raise-row-reads
+use Rattle.table_rows.proofs.rows.put_home.Reads as put-home-reads
+use Rattle.table_rows.proofs.rows.put_ranges.Reads as put-ranges-reads
+use Rattle.table_rows.proofs.rows.put_values.Reads as put-values-reads
+use Rattle.table_rows.proofs.sources.begin_row.Reads as begin-row-reads
 
 region-of-requires : tie.Need-region-of-requires
 region-of-requires c κs = search needs

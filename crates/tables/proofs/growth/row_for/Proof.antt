@@ -3,7 +3,7 @@ use Rattle.tables.specs.Growth.{row-there, row-new, row-none, nobody, ro
 use Rattle.tables.proofs.growth.row_for.Statement.{statement}
 use Rattle.tables.proofs.growth.row_for.Tie as tie
 use Rattle.tables.proofs.growth.append.Reads as append-reads
-use Rattle.tables.proofs.search.find.Reads as find-reads
+use Rattle.table_rows.proofs.search.find.Reads as find-reads
 
 find-requires : tie.Need-find-requires
 find-requires c κs =

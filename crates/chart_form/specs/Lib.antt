@@ -1,0 +1,4 @@
+pub mod Form
+pub mod Records
+pub mod Passed
+pub mod Bars
