@@ -1,16 +1,27 @@
-"""check.py CLAIMS PAGE..: every name on the pages exists, and the page of claims leaves nothing out.
+"""check.py CLAIMS PAGE..: every name on the pages and in the must-fail edits exists, and the page of claims leaves nothing out.
 
 `crate/specs/File.antt#name` or `crate/src/file.rt#name` is a name that the file under crates/ declares, and `crate/specs/File.antt` such a
-file; `edit crate/label` is a must-fail edit; `name/path` that begins with a folder at the root is a path. The page of claims has a row for
-each refusal that can be given and names every edit.
+file; `edit crate/label` is a mistake that a must-fail edit tries; `name/path` that begins with a folder at the root is a path. The page of claims has a
+row for each refusal that can be given and names every mistake. The place where a mistake must be refused is such a name of its crate.
 """
 import pathlib
 import re
 import sys
 
+# no __pycache__ beside the scripts
+sys.dont_write_bytecode = True
+sys.path.insert(0, "tools")
+from edits import edits, mistakes
+from repository import crates
+
 CRATES = pathlib.Path("crates")
 REFUSALS = [*range(1, 16), 19, 22]
 PATH = r"(?:crates|tests|tools|docs|examples|include|bench|\.ci)(?:/[\w.-]+)*/?"
+
+
+# every mistake, and by its crate and its label
+MISTAKES = [mistake for crate in crates() for file in edits(crate) for mistake in mistakes(file)]
+TRIED = {f"{mistake.crate}/{mistake.label}": mistake for mistake in MISTAKES}
 
 
 def declares(file, name):
@@ -30,8 +41,7 @@ def declares(file, name):
 def problem_of(word):
     """What is wrong with a word of a page in code type, none where it is right, False where it names nothing."""
     if word.startswith("edit "):
-        crate, _, label = word[5:].partition("/")
-        return None if (CRATES / crate / "must-fail" / f"{label}.edit").is_file() else "no such edit"
+        return None if word[5:] in TRIED else "no such edit"
     if "#" in word or re.fullmatch(r"\w+/(?:specs|src)/[\w/]+\.(?:antt|rt)", word):
         path, _, name = word.partition("#")
         file = CRATES / path
@@ -44,11 +54,14 @@ def problem_of(word):
 
 
 def left_out(claims):
-    """The edits and the refusals that the page of claims has not."""
-    for file in sorted(CRATES.glob("*/must-fail/*.edit")):
-        edit = f"edit {file.parts[1]}/{file.stem}"
-        if f"`{edit}`" not in claims:
-            yield f"not on the page: {edit}"
+    """The mistakes and the refusals that the page of claims has not, and the places of mistakes that are not there."""
+    if len(TRIED) < len(MISTAKES):
+        yield "two mistakes of one crate have the same label"
+    for name, mistake in TRIED.items():
+        if f"`edit {name}`" not in claims:
+            yield f"not on the page: edit {name}"
+        if problem_of(f"{mistake.crate}/{mistake.place}") is not None:
+            yield f"no such place: {mistake.place}, where edit {name} must be refused"
     for number in REFUSALS:
         if not re.search(rf"^\| {number} \|", claims, re.M):
             yield f"no row for refusal {number}"

@@ -50,7 +50,7 @@ impl Test {
     }
 
     /// A chart whose answer is known.
-    fn known_depth(&mut self, what: &str, bytes: &[u8], expected: Result<usize, Refusal>) {
+    pub fn known_depth(&mut self, what: &str, bytes: &[u8], expected: Result<usize, Refusal>) {
         let checked = self.checked_chart(bytes);
         same(what, bytes, checked.map(|chart| chart.depth), expected);
     }

@@ -1,13 +1,15 @@
 //! Holds the static library to an independent implementation that lists every configuration, on random sheets and charts of every kind,
 //! its ways to blocks to all sequences in order, where two charts part to a search over all pairs of blocks, its set-points to a search, its
-//! counts for counters that go round to lists of what increments reach, and its answers about two logs to a comparison in full. It stops at the
-//! first difference, with the bytes in hexadecimal, and fails if some kind of answer never came.
+//! counts for counters that go round to lists of what increments reach, and its answers about two logs to a comparison in full. Both are held to
+//! answers at extremes that are written down. It stops at the first difference, with the bytes in hexadecimal, and fails if some kind of answer
+//! never came.
 
 mod charts;
 mod depth;
 mod generate;
 mod go_round;
 mod hard;
+mod known;
 mod library;
 mod logs;
 mod machines;
@@ -470,6 +472,7 @@ fn kinds() -> Vec<String> {
     all.extend(numbers("run on a chart: refused ", &[3, 10, 11]));
     all.extend(versions::kinds());
     all.extend(depth::kinds());
+    all.extend(known::kinds());
     all.extend(way::kinds());
     all.extend(part::kinds());
     all.extend(set_point::kinds());
@@ -503,6 +506,7 @@ fn main() {
     let mut test = Test { rng: Random(seed), kinds: BTreeMap::new() };
     wrapper::test();
     [1, 2].iter().for_each(|version| named(&mut test, *version));
+    known::test(&mut test);
     refused_labels(&mut test, count as usize / 20);
     versions::test(&mut test, count as usize / 20);
     random_sheets(&mut test, 1, count as usize);

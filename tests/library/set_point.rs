@@ -1,9 +1,9 @@
 //! Set-points: the old value with which a carry rule comes to a wanted value, or just below. Every call is held to a search among all
-//! remainders that there can be, and every answer to what a fitter reads from it.
+//! remainders that there can be, and every answer to what a fitter reads from it; some answers are written down.
 
 use crate::library::{self, raw, SetPoint};
 use crate::random::Random;
-use crate::sheets::Refusal;
+use crate::sheets::{refuse, Refusal};
 use crate::{plain, same, told, Test};
 
 /// Document 02's limits: those of include/pilfstera.rs are under test.
@@ -20,6 +20,54 @@ const ENDS: [i64; 3] = [i64::MIN, i64::MIN + 1, i64::MAX];
 /// Numbers that are answered, with factors, offsets and wanted values of either sign, some just within their limits.
 const FINE: [[i64; 3]; 6] =
     [[3, 5, 16], [-3, 5, 16], [7, -199_999_999, 999_999], [-99, 199_999_999, -999_999], [1, 0, 0], [-1, -40, -1]];
+
+/// A factor, and old value and remainder for each of some offsets and wanted values.
+type Answers<const N: usize> = (i64, [(i64, i64); N]);
+
+/// Offset and wanted value, at and beside multiples of 1, 3 and 100, with distances on both sides of zero.
+const NEAR: [(i64, i64); 11] = [(0, -6), (0, -5), (0, -4), (0, -1), (0, 0), (0, 1), (0, 4), (0, 5), (0, 6), (5, 16), (-5, -16)];
+const NEAR_ANSWERS: [Answers<11>; 6] = [
+    (1, [(-6, 0), (-5, 0), (-4, 0), (-1, 0), (0, 0), (1, 0), (4, 0), (5, 0), (6, 0), (11, 0), (-11, 0)]),
+    (-1, [(6, 0), (5, 0), (4, 0), (1, 0), (0, 0), (-1, 0), (-4, 0), (-5, 0), (-6, 0), (-11, 0), (11, 0)]),
+    (3, [(-2, 0), (-2, 1), (-2, 2), (-1, 2), (0, 0), (0, 1), (1, 1), (1, 2), (2, 0), (3, 2), (-4, 1)]),
+    (-3, [(2, 0), (2, 1), (2, 2), (1, 2), (0, 0), (0, 1), (-1, 1), (-1, 2), (-2, 0), (-3, 2), (4, 1)]),
+    (100, [(-1, 94), (-1, 95), (-1, 96), (-1, 99), (0, 0), (0, 1), (0, 4), (0, 5), (0, 6), (0, 11), (-1, 89)]),
+    (-100, [(1, 94), (1, 95), (1, 96), (1, 99), (0, 0), (0, 1), (0, 4), (0, 5), (0, 6), (0, 11), (1, 89)]),
+];
+
+/// Offset and wanted value at their limits, in all signs.
+const FAR: [(i64, i64); 4] =
+    [(200_000_000, 1_000_000), (200_000_000, -1_000_000), (-200_000_000, 1_000_000), (-200_000_000, -1_000_000)];
+const FAR_ANSWERS: [Answers<4>; 6] = [
+    (1, [(-199_000_000, 0), (-201_000_000, 0), (201_000_000, 0), (199_000_000, 0)]),
+    (-1, [(199_000_000, 0), (201_000_000, 0), (-201_000_000, 0), (-199_000_000, 0)]),
+    (7, [(-28_428_572, 4), (-28_714_286, 2), (28_714_285, 5), (28_428_571, 3)]),
+    (-7, [(28_428_572, 4), (28_714_286, 2), (-28_714_285, 5), (-28_428_571, 3)]),
+    (100, [(-1_990_000, 0), (-2_010_000, 0), (2_010_000, 0), (1_990_000, 0)]),
+    (-100, [(1_990_000, 0), (2_010_000, 0), (-2_010_000, 0), (-1_990_000, 0)]),
+];
+
+/// What is refused: each number one beyond its limit, factor 0, and the ends of 64 bits.
+const REFUSED: [[i64; 3]; 14] = [
+    [101, 0, 0],
+    [-101, 0, 0],
+    [0, 0, 0],
+    [1, 200_000_001, 0],
+    [1, -200_000_001, 0],
+    [1, 0, 1_000_001],
+    [1, 0, -1_000_001],
+    [i64::MAX, 0, 0],
+    [i64::MIN, 0, 0],
+    [1, i64::MAX, 0],
+    [1, i64::MIN, 0],
+    [1, 0, i64::MAX],
+    [1, 0, i64::MIN],
+    [-1, i64::MIN, i64::MAX],
+];
+
+/// Offset and wanted value of set rules: these are refused whatever they set.
+const SETS: [(i64, i64); 6] =
+    [(0, 0), (16, 16), (-200_000_000, 1_000_000), (200_000_001, 0), (i64::MAX, i64::MAX), (i64::MIN, 0)];
 
 /// What a call hands in: the kind of the rule, and factor, offset and wanted value.
 #[derive(Clone, Copy, PartialEq, Eq, Debug)]
@@ -48,6 +96,15 @@ impl Call {
             _ => (-LIMITS[place]..=LIMITS[place]).contains(&self.numbers[place]) && (place > 0 || self.numbers[0] != 0),
         };
         (0..4).filter(|place| !allowed(*place)).collect()
+    }
+
+    /// What the call gives: the pair that is searched, or refusal 19.
+    fn expected(self) -> Result<SetPoint, Refusal> {
+        if self.faults().is_empty() {
+            Ok(self.searched())
+        } else {
+            refuse(19, 0)
+        }
     }
 
     /// The pair by trying every remainder, from 0 on, until the rest is a multiple of the factor.
@@ -97,7 +154,7 @@ impl Call {
 impl Test {
     /// One call, as C makes it, with noise in the numbers that are written, and by the safe function.
     fn set_point(&mut self, call: Call) {
-        let expected = if call.faults().is_empty() { Ok(call.searched()) } else { Err(Refusal { number: 19, returned: 0 }) };
+        let expected = call.expected();
         let (kind, [factor, offset, wanted]) = (call.kind, call.numbers);
         let noise = SetPoint { old: self.rng.next() as i64, remainder: self.rng.next() as i64 };
         let (mut returned, mut written) = (self.noise(), noise);
@@ -126,27 +183,33 @@ pub fn kinds() -> Vec<String> {
             all.extend(remainders.map(|remainder| format!("{factor} factor, {distance} distance, remainder {remainder}")));
         }
     }
+    all.push("known answer".into());
     all.into_iter().map(|what| format!("set-point: {what}")).collect()
 }
 
-/// Pairs found by hand, with every sign: the search is held to them too.
+/// A carry rule of each factor, asked for each wanted value with its offset, and the answer.
+fn answered<const N: usize, const M: usize>(asked: [(i64, i64); N], factors: [Answers<N>; M]) -> Vec<(Call, Result<SetPoint, Refusal>)> {
+    let of_factor = |(factor, answers): Answers<N>| {
+        let answer = move |((offset, wanted), (old, remainder))| (carry(factor, offset, wanted), Ok(SetPoint { old, remainder }));
+        asked.into_iter().zip(answers).map(answer)
+    };
+    factors.into_iter().flat_map(of_factor).collect()
+}
+
+/// Calls whose answers are known, with every sign: the search is held to them too.
 fn known(test: &mut Test) {
-    let cases = [
-        ([3, 5, 16], (3, 2)),
-        ([3, 5, 14], (3, 0)),
-        ([3, 5, 4], (-1, 2)),
-        ([-3, 5, 16], (-3, 2)),
-        ([-3, 5, 4], (1, 2)),
-        ([-3, 5, 2], (1, 0)),
-        ([100, 0, -1], (-1, 99)),
-        ([-100, 0, -1], (1, 99)),
-        ([1, -OFFSET_LIMIT, VALUE_LIMIT], (201_000_000, 0)),
-        ([-1, -OFFSET_LIMIT, VALUE_LIMIT], (-201_000_000, 0)),
-    ];
-    for (numbers, (old, remainder)) in cases {
-        let call = Call { kind: 1, numbers };
-        same("the search", &[], (call, call.searched()), (call, SetPoint { old, remainder }));
+    let mut all = answered(NEAR, NEAR_ANSWERS);
+    all.extend(answered(FAR, FAR_ANSWERS));
+    all.extend(answered([(5, 14), (5, 4), (5, 2)], [(3, [(3, 0), (-1, 2), (-1, 0)]), (-3, [(-3, 0), (1, 2), (1, 0)])]));
+    all.extend(REFUSED.map(|[factor, offset, wanted]| (carry(factor, offset, wanted), refuse(19, 0))));
+    // the factor of a set rule in a sheet, and one that a carry rule may have
+    for factor in [0, 1] {
+        all.extend(SETS.map(|(offset, wanted)| (Call { kind: 0, numbers: [factor, offset, wanted] }, refuse(19, 0))));
+    }
+    for (call, known) in all {
+        same("the search", &[], (call, call.expected()), (call, known));
         test.set_point(call);
+        test.count("set-point: known answer");
     }
 }
 

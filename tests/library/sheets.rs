@@ -11,7 +11,7 @@ pub struct Refusal {
     pub returned: usize,
 }
 
-fn refuse<T>(number: u8, returned: usize) -> Result<T, Refusal> {
+pub fn refuse<T>(number: u8, returned: usize) -> Result<T, Refusal> {
     Err(Refusal { number, returned })
 }
 

@@ -5,23 +5,18 @@ ghost use Prim.Native.Nat.{_≤_};
 ghost use lib.ListN.{length};
 ghost use Rattle.systems.specs.FirstWords.{NumberedAsNamed};
 ghost use Rattle.model.specs.Chart.{blocksOf, recordAt, chartSystem};
-ghost use Rattle.sheet_bytes.specs.Decode.{decode};
+ghost use Rattle.sheet_rules.specs.Decode.{decode};
 ghost use Rattle.chart_bytes.specs.Shape.{Shaped, Counted};
-ghost use Rattle.charting.specs.Making.{writtenBy};
-ghost use Rattle.access_sequence.specs.Access.{requestChecks, wayChecks, wayTo, answeredBy};
-ghost use Rattle.access_sequence.specs.Machine.{Accesses};
+ghost use Rattle.making_rules.specs.Making.{writtenBy};
+ghost use Rattle.access_rules.specs.Access.{requestChecks, wayChecks, wayTo, answeredBy};
+ghost use Rattle.access_rules.specs.Machine.{Accesses};
+pub use access_rules::Access;
 use answers::Checked;
 use answers::demanded;
 use chart_bytes::fields::blocks_of;
 use charting::Made;
 use charting::make;
 use first_words::write_first_word;
-
-// What is answered: the way is written and has so many actions, or it is refused.
-pub enum Access {
-    Done { length: usize },
-    Refused { number: u8, returned: usize },
-}
 
 // 15 for a block that a chart of n blocks lacks, then 10 for a buffer that is too short for the way to some block.
 fn check_request(n: usize, block: usize, room: usize) -> Checked

@@ -11,11 +11,11 @@ use Rattle.answers.specs.declared.FirstBarred.{FirstBarred}
 use Rattle.answers.specs.declared.FirstBarred.the-variants.{Nothing, At}
 use Rattle.answers.specs.declared.Ran.{Ran}
 use Rattle.chart.specs.declared.Settled.{Settled}
-use Rattle.charting.specs.declared.Made.{Made}
-use Rattle.access_sequence.specs.declared.Access.{Access}
+use Rattle.making_rules.specs.declared.Made.{Made}
+use Rattle.access_rules.specs.declared.Access.{Access}
 use Rattle.model.specs.declared.Rule.{Rule}
 use Rattle.model.specs.declared.Rule.the-variants.{Set, Carry}
-use Rattle.separating_sequence.specs.declared.Separation.{Separation}
+use Rattle.separation_rules.specs.declared.Separation.{Separation}
 use Rattle.set_point.specs.declared.SetPoint.{SetPoint}
 use Rattle.congruence.specs.declared.Solved.{Solved}
 

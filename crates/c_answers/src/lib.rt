@@ -3,15 +3,15 @@
 // Internal: serves sister crates; no function asks anything of its caller.
 ghost use mathlib.Core.Path.{_≡_};
 ghost use Rattle.c_answers.specs.Exports.{checkNumber, checkReturned, runNumber, runReturned, runBarred, depthNumber, depthReturned, makeNumber, makeReturned, wayNumber, wayReturned, partNumber, partReturned, partEqual, barredIndex, ruleFrom, pointNumber, pointReturned, pointOld, pointRemainder, solvedNumber, solvedReturned};
-use access_sequence::Access;
+use access_rules::Access;
 use answers::Checked;
 use answers::FirstBarred;
 use answers::Ran;
 use chart::Settled;
-use charting::Made;
 use congruence::Solved;
+use making_rules::Made;
 use model::Rule;
-use separating_sequence::Separation;
+use separation_rules::Separation;
 use set_point::SetPoint;
 
 // Stores what a check returns, and gives its number.
@@ -75,8 +75,8 @@ pub fn told_depth(depth: Settled, returned: &mut usize) -> u8
     ensures { λ _. ⌜ now (returned .exit) ≡ depthReturned depth ⌝ }
 {
     match depth {
-        Settled::Done { depth: value } => {
-            *returned = value;
+        Settled::Done { depth: most } => {
+            *returned = most;
             0
         }
         Settled::Refused {
@@ -101,9 +101,9 @@ pub fn told_made(made: Made, returned: &mut usize) -> u8
         }
         Made::Refused {
             number,
-            returned: value,
+            returned: told,
         } => {
-            *returned = value;
+            *returned = told;
             number
         }
     }

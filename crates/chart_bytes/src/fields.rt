@@ -5,7 +5,7 @@ ghost use lib.ListN.{length};
 ghost use Rattle.model.specs.Chart.{actionsOf, blocksOf, recordAt, labelOf, targetOf};
 ghost use Rattle.chart_bytes.specs.Header.{targetAt};
 ghost use Rattle.chart_bytes.specs.Shape.{Shaped};
-use integers::bytes::unsigned16;
+use machine_integers::bytes::unsigned16;
 
 // Number of actions.
 pub fn actions_of(c: &[u8]) -> usize

@@ -4,26 +4,21 @@ ghost use mathlib.Core.Path.{_≡_};
 ghost use Prim.Native.Nat.{_+_, _*_, _≤_};
 ghost use lib.ListN.{length};
 ghost use Rattle.model.specs.Blocks.{chartOf, boxListOf};
-ghost use Rattle.sheet_bytes.specs.Layout.{boundSize};
-ghost use Rattle.sheet_bytes.specs.Decode.{decode};
+ghost use Rattle.sheet_rules.specs.Layout.{boundSize};
+ghost use Rattle.sheet_rules.specs.Decode.{decode};
 ghost use Rattle.sheet_bytes.specs.Fields.{Small};
-ghost use Rattle.table_rows.specs.Arrays.{CellsRoom, HomesRoom, TargetsRoom};
-ghost use Rattle.table_rows.specs.Meaning.{Ready};
-ghost use Rattle.minimize.specs.Steps.{Table};
-ghost use Rattle.charting.specs.Making.{roomsFor, blockChecks, makeChecks, madeBy, writtenBy, Makes};
+ghost use Rattle.table_rules.specs.Arrays.{CellsRoom, HomesRoom, TargetsRoom};
+ghost use Rattle.table_rules.specs.Meaning.{Ready};
+ghost use Rattle.table_passes.specs.Steps.{Table};
+ghost use Rattle.making_rules.specs.Making.{roomsFor, blockChecks, makeChecks, madeBy, writtenBy, Makes};
 use answers::Checked;
 use answers::demanded;
-use minimize::Refined;
+pub use making_rules::Made;
 use minimize::table::refine;
 use sheet_bytes::Shape;
 use sheet_bytes::fields::shape_of;
+use table_passes::Refined;
 use writing::write_both;
-
-// What making a chart answers: the number of blocks, or a refusal.
-pub enum Made {
-    Done { blocks: usize },
-    Refused { number: u8, returned: usize },
-}
 
 // 10: the first short buffer, chart, then list.
 fn check_rooms(shape: Shape, n: usize, chart_room: usize, list_room: usize) -> Checked

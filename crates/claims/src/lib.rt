@@ -1,7 +1,7 @@
-// Two makings of charts, and what is claimed of them (demands 2 and 3). The statements stand in specs/Claims.antt.
+// Two makings of charts, and what is claimed of them (demands 2 and 3). The statements stand in making_rules, specs/Claims.antt.
 // Public: no function asks anything of its caller, and each contract gives the answer as a definition does.
 ghost use mathlib.Core.Path.{_≡_};
-ghost use Rattle.claims.specs.Claims.{Demand2, Demand3, made, chartLeft, listLeft};
+ghost use Rattle.making_rules.specs.Claims.{Demand2, Demand3, made, chartLeft, listLeft};
 use charting::Made;
 use charting::make;
 

@@ -25,11 +25,11 @@ use Rattle.sheet_bytes.specs.declared.Move.{Move}
 use Rattle.sheet_bytes.specs.declared.Move.the-variants.{Barred, Open}
 use Rattle.sheet_bytes.specs.declared.Rules.{Rules}
 use Rattle.sheet_bytes.specs.declared.RegionMove.{RegionMove}
-use Rattle.sheet_bytes.specs.Layout.{countersOf, actionsOf, regionsOf, kindOf, movePart}
-use Rattle.sheet_bytes.specs.Decode as Decode
-use Rattle.sheet_bytes.specs.Decode.{decode, listed, ruleAt, moveOf}
+use Rattle.sheet_rules.specs.Layout.{countersOf, actionsOf, regionsOf, kindOf, movePart}
+use Rattle.sheet_rules.specs.Decode as Decode
+use Rattle.sheet_rules.specs.Decode.{decode, listed, ruleAt, moveOf}
 use Rattle.sheet_bytes.specs.Three.{Read, firsts, padded, rulesMeant, moveMeant, moveOfKind, rulesThree, kindNamed, moveThree}
-use Rattle.sheet_bytes.specs.Bounds.{each-listed}
+use Rattle.sheet_rules.specs.Listed.{each-listed}
 use Rattle.depth_bound.specs.Depth.{Tells, UnitRegion, UnitFactors}
 
 -- what an answer tells

@@ -18,11 +18,12 @@ use Rattle.model.specs.DepthBound.{Doublings, unit-factors, narrow-ranges, dept
 use Rattle.sheet_bytes.specs.declared.Shape.{Shape}
 use Rattle.sheet_bytes.specs.declared.Ranges.{Ranges}
 use Rattle.sheet_bytes.specs.declared.RegionBox.{RegionBox}
-use Rattle.sheet_bytes.specs.Layout.{countersOf}
-use Rattle.sheet_bytes.specs.Decode as Decode
-use Rattle.sheet_bytes.specs.Decode.{decode, listed, rangeAt}
+use Rattle.sheet_rules.specs.Layout.{countersOf}
+use Rattle.sheet_rules.specs.Decode as Decode
+use Rattle.sheet_rules.specs.Decode.{decode, listed, rangeAt}
 use Rattle.sheet_bytes.specs.Three.{Read, firsts, padded, zeroRange, boxThree, firsts-padded}
-use Rattle.sheet_bytes.specs.Bounds.{RangesWithin, each-of, box-within}
+use Rattle.sheet_bytes.specs.Bounds.{RangesWithin, box-within}
+use Rattle.sheet_rules.specs.Listed.{each-of}
 use Rattle.depth_bound.specs.Depth.{UnitFactors, NarrowRegion, NarrowRanges, widened, exactDepth, Tells}
 use Rattle.depth_bound.specs.Factors.{region-is, regions-count, below-more}
 

@@ -4,8 +4,8 @@ ghost use Prim.Native.Nat.{_≤_};
 ghost use lib.IntN.{pos};
 ghost use Rattle.integers.specs.Range.{Within, RangeWithin};
 use integers::Range;
-use integers::division::lower_end;
-use integers::division::upper_end;
+use machine_integers::division::lower_end;
+use machine_integers::division::upper_end;
 
 // z, or 0 where z is not within n of zero.
 fn near(z: i64, n: u32) -> i64
@@ -68,9 +68,9 @@ fn show_inverse(f: i64, b: i64, low: i64, high: i64) {
     text::put(b" into ");
     put_range(wanted);
     text::put(b": ");
-    let old = integers::division::inverse_range(f, b, wanted);
+    let old = machine_integers::division::inverse_range(f, b, wanted);
     put_range(old);
-    if integers::ranges::is_vacant(old) {
+    if machine_integers::ranges::is_vacant(old) {
         text::put(b" vacant");
     }
     text::put(b"\n");
@@ -176,12 +176,12 @@ fn show_common(a: Range, b: Range) {
     text::put(b" and ");
     put_range(b);
     text::put(b": ");
-    let both = integers::ranges::common(a, b);
+    let both = machine_integers::ranges::common(a, b);
     put_range(both);
-    if integers::ranges::is_vacant(both) {
+    if machine_integers::ranges::is_vacant(both) {
         text::put(b" vacant");
     }
-    if integers::ranges::has(both, 0) {
+    if machine_integers::ranges::has(both, 0) {
         text::put(b" with 0");
     }
     text::put(b"\n");
@@ -191,20 +191,20 @@ fn show_count(low: i64, high: i64) {
     let r = range(low, high);
     put_range(r);
     text::put(b": count ");
-    text::put_number(integers::ranges::count(r));
+    text::put_number(machine_integers::ranges::count(r));
     text::put(b"\n");
 }
 
 fn show_bytes(a: u8, b: u8, c: u8, d: u8) {
     let s = [a, b, c, d];
     text::put(b"unsigned16 ");
-    text::put_number(integers::bytes::unsigned16(&s, 0) as u64);
+    text::put_number(machine_integers::bytes::unsigned16(&s, 0) as u64);
     text::put(b" signed8 ");
-    text::put_signed(integers::bytes::signed8(&s, 3));
+    text::put_signed(machine_integers::bytes::signed8(&s, 3));
     text::put(b" signed16 ");
-    text::put_signed(integers::bytes::signed16(&s, 2));
+    text::put_signed(machine_integers::bytes::signed16(&s, 2));
     text::put(b" signed32 ");
-    text::put_signed(integers::bytes::signed32(&s, 0));
+    text::put_signed(machine_integers::bytes::signed32(&s, 0));
     text::put(b"\n");
 }
 

@@ -1,55 +1,21 @@
 // The refinement: representatives with shrinking boxes, until no row can be unstable.
-ghost use Prim.Native.Nat.{_<_, _≤_};
+ghost use Prim.Native.Nat.{_≤_};
 ghost use Rattle.model.specs.DepthBound.{Doublings};
-ghost use Rattle.sheet_bytes.specs.Decode.{decode};
-ghost use Rattle.table_rows.specs.Arrays.{CellsRoom, HomesRoom, TargetsRoom, FlagsRoom, BoundsRoom};
-ghost use Rattle.table_rows.specs.Meaning.{Ready};
-ghost use Rattle.minimize.specs.State.{State};
-ghost use Rattle.minimize.specs.Steps.{Stable, Answered};
-ghost use Rattle.minimize.specs.Passes.{DownAbove, Swept};
-use crate::Refined;
-use crate::steps::turn;
+ghost use Rattle.sheet_rules.specs.Decode.{decode};
+ghost use Rattle.table_rules.specs.Arrays.{CellsRoom, HomesRoom, TargetsRoom, FlagsRoom, BoundsRoom};
+ghost use Rattle.table_rules.specs.Meaning.{Ready};
+ghost use Rattle.table_passes.specs.State.{State};
+ghost use Rattle.table_passes.specs.Steps.{Stable, Answered};
 use depth_bound::doublings;
 use depth_bound::exact_depth;
 use sheet_bytes::Shape;
 use sheet_bytes::fields::start_of;
+use table_passes::Refined;
+use table_passes::sweep::sweep;
 use table_rows::depths::depth_after;
 use table_rows::depths::sure_depth;
-use table_rows::marks::any_raised;
 use table_rows::marks::last_raised;
 use tables::growth::append;
-
-// A pass: turns of the rows of which a flag is up, from row `last`, which is the last of them, down to the first that may have one. It ends where a row is new.
-pub(crate) fn sweep(
-    s: &[u8],
-    shape: Shape,
-    cells: &mut [i64],
-    homes: &mut [u8],
-    targets: &mut [u8],
-    flags: &mut [u8],
-    bounds: &mut [usize],
-    n: usize,
-    last: usize,
-) -> usize
-    requires { ⌜ Ready (now s) shape ⌝ }
-    requires { ⌜ State (now s) shape (now cells) (now homes) (now targets) (now flags) (now bounds) n ⌝ }
-    requires { ⌜ (last < n) × DownAbove (now flags) (shape .actions) last n ⌝ }
-    ensures { λ r. ⌜ Swept (now (s .entry)) shape (now (cells .entry)) (now (homes .entry)) (now (flags .entry)) n (now (cells .exit)) (now (homes .exit)) (now (targets .exit)) (now (flags .exit)) (now (bounds .exit)) r ⌝ }
-{
-    bounds[511] = 255;
-    let mut k = last + 1;
-    while k > bounds[510] {
-        k -= 1;
-        if any_raised(flags, shape.actions, k) {
-            let rows = turn(s, shape, cells, homes, targets, flags, bounds, n, k);
-            if rows > n {
-                return rows;
-            }
-        }
-    }
-    bounds[510] = bounds[511];
-    n
-}
 
 // Passes until no flag is up. If there are at most 255 blocks, rows that are all 255 deep have every block, so that a new row means more; and rows that are as
 // deep as `exact_depth` are the blocks, so that a flag which a pass over such rows raised means more.

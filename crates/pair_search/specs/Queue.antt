@@ -17,9 +17,9 @@ use Rattle.model.specs.Chart.{actionsOf, blocksOf, labelOf, chartStep, chartSys
 use Rattle.model.specs.Rounds.{TargetsRight, chartStep-out}
 use Rattle.chart_bytes.specs.Shape.{Shaped}
 use Rattle.noted_words.specs.Words.{Falling, notedWord, word-none, word-more, word-same}
-use Rattle.pair_search.specs.Pairs.{Pair, JoinedAll, Visited, FirstSeparating}
-use Rattle.pair_search.specs.Visiting.{visited-begun, visited-barred, visited-joined, visited-new, visited-next}
-use Rattle.pair_search.specs.Verdict.{visited-all, visited-parts, starts-apart}
+use Rattle.systems.specs.Pairs.{Pair, JoinedAll, Visited, FirstSeparating}
+use Rattle.systems.specs.PairVisiting.{visited-begun, visited-barred, visited-joined, visited-new, visited-next}
+use Rattle.systems.specs.PairVerdict.{visited-all, visited-parts, starts-apart}
 use Rattle.pair_search.specs.Classes.{merged, Classes, classes-begun, classes-room, classes-merged}
 
 -- what is asked of the two charts: their form is right, no label is 65,535, and they have as many actions

@@ -1,5 +1,5 @@
 -- What the code rests on: from the checks to what the search asks for, and from what it finds to the answer.
-use mathlib.Core.Path.{_≡_, refl, sym, ap, subst, _∙_}
+use mathlib.Core.Path.{_≡_, sym, ap, subst, _∙_}
 use mathlib.Core.List.{List}
 use mathlib.Core.Option.{Option}
 use Prim.Native.Nat.{ℕ, _+_, _-_, _≤_, _<_}
@@ -12,20 +12,19 @@ use Rattle.answers.specs.declared.Checked.{Checked}
 use Rattle.answers.specs.declared.Checked.the-variants.{Fine, Refused}
 use Rattle.answers.specs.Stages.{demand, then-fine, demand-fine}
 use Rattle.answers.specs.Run.{overwrite}
-use Rattle.model.specs.Chart.{actionsOf, blocksOf, chartSystem, chartReading, ChartRules}
+use Rattle.model.specs.Chart.{actionsOf, blocksOf, chartSystem, chartReading}
 use Rattle.model.specs.Labels.{chart-plain}
 use Rattle.chart_bytes.specs.Shape.{Shaped}
-use Rattle.chart.specs.Check.{chartCheck}
-use Rattle.chart.specs.Accepted.{accepted, rules-shaped}
+use Rattle.chart.specs.Accepted.{rules-shaped}
 use Rattle.noted_words.specs.Words.{notedWord, word-short}
 use Rattle.pair_search.specs.declared.Progress.{Progress}
 use Rattle.pair_search.specs.Queue.{Comparable, Noted}
 use Rattle.pair_search.specs.Progress.{Finds, separated, equivalent}
-use Rattle.separating_sequence.specs.declared.Separation.{Separation}
-use Rattle.separating_sequence.specs.declared.Separation.the-variants.{Equal, Parted}
-use Rattle.separating_sequence.specs.Separation.{evidence, largest, raisedBy, chartsCheck, bytesNeeded, requestCheck, pairCheck, separatedBy, leftBy}
-use Rattle.separating_sequence.specs.Refusals.{capped-fits, capped-most}
-use Rattle.separating_sequence.specs.Theorems.{evidence-some, evidence-none}
+use Rattle.separation_rules.specs.declared.Separation.{Separation}
+use Rattle.separation_rules.specs.declared.Separation.the-variants.{Equal, Parted}
+use Rattle.separation_rules.specs.Separation.{evidence, largest, raisedBy, chartsCheck, bytesNeeded, requestCheck, pairCheck, separatedBy, leftBy}
+use Rattle.separation_rules.specs.Refusals.{capped-fits, capped-most, charts-rules}
+use Rattle.separation_rules.specs.Theorems.{evidence-some, evidence-none}
 
 -- a refusal that is raised, as the code finds it
 pub raised-fine : (l : ℕ) {c : Checked} → c ≡ Fine → Fine ≡ raisedBy l c
@@ -39,18 +38,6 @@ raised-sum l n p b e h = sym (ap (raisedBy l) e ∙ ap (Refused n) (capped-fits 
 pub raised-most : (l n p : ℕ) {c : Checked} → l ≤ largest → c ≡ Refused n p → largest - l < p → Refused n largest ≡ raisedBy l c
 unfolding raisedBy
 raised-most l n p b e h = sym (ap (raisedBy l) e ∙ ap (Refused n) (capped-most (p + l) (omega arith)))
-
-raised-passed : (l : ℕ) (c : Checked) → raisedBy l c ≡ Fine → c ≡ Fine
-unfolding raisedBy
-raised-passed l Fine e = refl
-raised-passed l (Refused n p) e = let z : _≡_ {A = ℕ} 0 1 = cc in absurd (omega arith)
-
--- charts that pass obey the chart rules
-pub charts-rules : (c d : List ℕ) → chartsCheck c d ≡ Fine → ChartRules c × ChartRules d
-unfolding chartsCheck
-charts-rules c d e =
-    let (p, q) = then-fine (chartCheck c) (raisedBy (length c) (chartCheck d)) e in
-    (accepted c .0 p, accepted d .0 (raised-passed (length c) (chartCheck d) q))
 
 pub charts-shaped : (c d : List ℕ) {r : Checked} → r ≡ chartsCheck c d → r ≡ Fine → Shaped c × Shaped d
 charts-shaped c d e q = let (R, S) = charts-rules c d (sym e ∙ q) in (rules-shaped c R, rules-shaped d S)

@@ -5,7 +5,7 @@ ghost use Prim.Native.Nat.{_≤_};
 ghost use lib.ListN.{length};
 ghost use Rattle.answers.specs.declared.Checked.the-variants.{Fine};
 ghost use Rattle.pair_search.specs.Queue.{Comparable};
-ghost use Rattle.separating_sequence.specs.Separation.{raisedBy, chartsCheck, pairCheck, bytesNeeded, evidence, separatedBy, leftBy};
+ghost use Rattle.separation_rules.specs.Separation.{raisedBy, chartsCheck, pairCheck, bytesNeeded, evidence, separatedBy, leftBy};
 use answers::Checked;
 use answers::demanded;
 use chart_bytes::fields::actions_of;
@@ -14,13 +14,7 @@ use noted_words::word_length;
 use noted_words::write_word;
 use pair_search::Progress;
 use pair_search::search;
-
-// What is answered: the charts are equal in behaviour; or the sequence that parts them is written and has so many actions; or it is refused.
-pub enum Separation {
-    Equal,
-    Parted { length: usize },
-    Refused { number: u8, returned: usize },
-}
+pub use separation_rules::Separation;
 
 // A check whose refusal returns so much more, and the largest number of 64 bits at most.
 fn raised(checked: Checked, by: usize) -> Checked

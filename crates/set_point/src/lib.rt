@@ -6,8 +6,8 @@ ghost use Rattle.integers.specs.Range.{Within};
 ghost use Rattle.set_point.specs.Euclid.{quotient};
 ghost use Rattle.set_point.specs.SetPoint.{factorAllowed, allowed, solution, setPoint};
 use integers::Range;
-use integers::division::inverse_range;
-use integers::ranges::near_zero;
+use machine_integers::division::inverse_range;
+use machine_integers::ranges::near_zero;
 use model::Rule;
 
 // The old value, with what its new value is below the wanted one; or a refusal.

@@ -1,12 +1,2 @@
-pub mod Check
-pub mod Overlap
-pub mod Counting
-pub mod Landing
-pub mod Volumes
-pub mod Tight
-pub mod Shares
-pub mod Accepted
-pub mod Regions
 pub mod Whole
-pub mod RunSheet
 pub mod Walk

@@ -33,18 +33,19 @@ use Rattle.sheet_bytes.specs.declared.Config.{Config}
 use Rattle.sheet_bytes.specs.declared.Move.{Move}
 use Rattle.sheet_bytes.specs.declared.Move.the-variants.{Barred, Open}
 use Rattle.sheet_bytes.specs.declared.RegionMove.{RegionMove}
-use Rattle.sheet_bytes.specs.Layout.{countersOf, actionsOf, regionsOf, startValue, labelAt, movePart}
-use Rattle.sheet_bytes.specs.Decode.{ruleAt, moveAt, regionAt, startOf, decode}
+use Rattle.sheet_rules.specs.Layout.{countersOf, actionsOf, regionsOf, startValue, labelAt, movePart}
+use Rattle.sheet_rules.specs.Decode.{ruleAt, moveAt, regionAt, startOf, decode}
 use Rattle.sheet_bytes.specs.Three.{Read, firsts, rangesMeant, valuesMeant, rulesMeant, boxMeant, configMeant, moveMeant, moveOfKind, padded, padded-out, zeroRule, boxThree, startThree, moveThree, box-meant, start-meant, move-meant}
 use Rattle.sheet_bytes.specs.Space.{RulesSafe, ValuesWithin, allThree, landThree, land-meant, fits-safe}
 use Rattle.sheet_bytes.specs.Bounds.{RangesWithin}
-use Rattle.sheet_form.specs.Fits.{moves-fit, box-fits}
+use Rattle.sheet_rules.specs.Fits.{moves-fit}
+use Rattle.sheet_form.specs.BoxFits.{box-fits}
 use Rattle.sheet.specs.declared.walk.Acted.{Acted}
-use Rattle.sheet.specs.Check.{sheetCheck}
-use Rattle.sheet.specs.Landing.{Passed}
-use Rattle.sheet.specs.Shares.{countable}
-use Rattle.sheet.specs.Accepted.{Stages, stages, regions-count, region-is, box-is, step-is, accepted}
-use Rattle.sheet.specs.RunSheet.{sheetRunCheck}
+use Rattle.sheet_rules.specs.Check.{sheetCheck}
+use Rattle.sheet_regions.specs.Landing.{Passed}
+use Rattle.sheet_regions.specs.Shares.{countable}
+use Rattle.sheet_rules.specs.Accepted.{Stages, stages, regions-count, region-is, box-is, step-is, accepted}
+use Rattle.sheet_rules.specs.RunSheet.{sheetRunCheck}
 
 -- a value in a range lies within its bounds
 contained-within : {n : ℕ} (r : Range) (z : ℤ) → RangeWithin n r → T (contains r z) → Within n z

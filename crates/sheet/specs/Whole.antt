@@ -11,12 +11,12 @@ use Rattle.answers.specs.declared.Checked.{Checked}
 use Rattle.answers.specs.declared.Checked.the-variants.{Fine}
 use Rattle.answers.specs.Stages.{andThen, demand, each, then-fine}
 use Rattle.sheet_bytes.specs.declared.Shape.{Shape}
-use Rattle.sheet_bytes.specs.Layout.{sheetMark, versionOf, countersOf, actionsOf, regionsOf}
-use Rattle.sheet_bytes.specs.Shape.{Shaped}
+use Rattle.sheet_rules.specs.Layout.{sheetMark, versionOf, countersOf, actionsOf, regionsOf}
+use Rattle.sheet_rules.specs.Shape.{Shaped}
 use Rattle.sheet_bytes.specs.Three.{Read, shapeOf}
-use Rattle.sheet_form.specs.Form.{sameBytes, from-to, checkHeader, checkCounts, checkLimits}
-use Rattle.sheet.specs.Check.{checkLabel, checkOverlap, checkStart, checkLanding}
-use Rattle.sheet.specs.Accepted.{between, demanded}
+use Rattle.sheet_rules.specs.Form.{sameBytes, from-to, checkHeader, checkCounts, checkLimits}
+use Rattle.sheet_rules.specs.Check.{checkLabel, checkOverlap, checkStart, checkLanding}
+use Rattle.sheet_rules.specs.Accepted.{between, demanded}
 
 -- 4 to 8
 unfoldable pub contentsCheck : List ℕ → Checked

@@ -3,9 +3,9 @@
 ghost use mathlib.Core.Path.{_≡_};
 ghost use lib.ListN.{length};
 ghost use Rattle.sheet_bytes.specs.Three.{Read};
-ghost use Rattle.sheet.specs.Check.{sheetCheck};
+ghost use Rattle.sheet_rules.specs.Check.{sheetCheck};
 ghost use Rattle.sheet.specs.Whole.{contentsCheck};
-ghost use Rattle.sheet.specs.RunSheet.{sheetRunCheck, sheetRan, sheetLeft};
+ghost use Rattle.sheet_rules.specs.RunSheet.{sheetRunCheck, sheetRan, sheetLeft};
 use answers::Checked;
 use answers::Ran;
 use answers::sequence::check_sequence;
@@ -15,9 +15,9 @@ use sheet_form::header::check_counts;
 use sheet_form::header::check_header;
 use sheet_form::header::check_length;
 use sheet_form::limits::check_limits;
+use sheet_regions::landing;
+use sheet_regions::regions;
 
-mod landing;
-mod regions;
 mod walk;
 
 // 4 to 8, of a sheet that passed 1 to 3.

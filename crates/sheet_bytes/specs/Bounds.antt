@@ -1,23 +1,18 @@
 -- How far from zero the numbers of a sheet are, and what cuts of its boxes ask.
-use mathlib.Core.Path.{_≡_, refl, subst}
+use mathlib.Core.Path.{_≡_, refl}
 use mathlib.Core.Bool.{Bool, true, false, cond}
-use mathlib.Core.List.{List, [], _∷_, _++_}
-use Prim.Native.Nat.{ℕ, zero, suc, _+_, _≤_, _<_}
-use native.Mathlib.Omega.{arith}
+use mathlib.Core.List.{List}
+use Prim.Native.Nat.{ℕ, _≤_, _<_}
 use lib.Dec.{ltb}
 use borrow.Author.Tests.{ltb-true}
 use Rattle.integers.specs.Range.{within-zero, RangeWithin}
-use Rattle.integers.specs.LittleEndian.{Bytes, signed-held}
-use Rattle.systems.specs.Lists.{length-each, getD-each, collect}
 use Rattle.model.specs.declared.Rule.{Rule}
-use Rattle.model.specs.Sheet.{RuleFits, set-fits, Each, each-none, each-more}
-use Rattle.model.specs.Classes.{each-at}
-use Rattle.model.specs.BoxList.{RangeHeld}
+use Rattle.model.specs.Sheet.{RuleFits, set-fits, Each}
 use Rattle.sheet_bytes.specs.declared.Ranges.{Ranges}
 use Rattle.sheet_bytes.specs.declared.Rules.{Rules}
-use Rattle.sheet_bytes.specs.Layout.{countersOf, boundSize, lowPlace, highPlace}
-use Rattle.sheet_bytes.specs.Decode.{listed, rangeAt}
-use Rattle.sheet_bytes.specs.Shape.{two-or-four, width-few}
+use Rattle.sheet_rules.specs.Layout.{countersOf}
+use Rattle.sheet_rules.specs.Decode.{listed, rangeAt}
+use Rattle.sheet_rules.specs.Listed.{each-of}
 use Rattle.sheet_bytes.specs.Three.{padded, zeroRange, zeroRule, rulesThree, boxThree}
 use Rattle.sheet_bytes.specs.Cuts.{fits-wider}
 
@@ -33,21 +28,6 @@ pub record RulesFit (r : Rules) : Type 0 where
   pub second-fits : RuleFits 3 (r .second)
   pub third-fits : RuleFits 3 (r .third)
 
--- one more at the end of a list
-pub each-snoc : {A : Type 0} {P : A → Type 0} {l : List A} {a : A} → Each P l → P a → Each P (l ++ (a ∷ []))
-each-snoc each-none h = each-more h each-none
-each-snoc (each-more g e) h = each-more g (each-snoc e h)
-
--- what holds of f 0, .., f (n - 1) holds of each in their list
-pub each-listed : {A : Type 0} {P : A → Type 0} (f : ℕ → A) (n : ℕ) → ((v : ℕ) → v < n → P (f v)) → Each P (listed f n)
-unfolding collect
-each-listed f zero h = each-none
-each-listed f (suc n) h = each-snoc (each-listed f n (λ v k. h v (omega arith))) (h n (omega arith))
-
--- and the other way round
-pub each-of : {A : Type 0} {P : A → Type 0} (f : ℕ → A) (n : ℕ) → Each P (listed f n) → (v : ℕ) → v < n → P (f v)
-each-of {A} {P} f n e v h = subst P (getD-each f n (f v) v h) (each-at e v (f v) (omega (arith, length-each f n)))
-
 -- a property of all n and of the padding is one of those that were padded
 padded-each : {A : Type 0} (P : A → Type 0) (d : A) (f : ℕ → A) (n v : ℕ) → P d → ((k : ℕ) → k < n → P (f k)) → P (padded d f n v)
 unfolding padded
@@ -56,13 +36,6 @@ padded-each P d f n v z h = go (ltb v n) refl
     go : (t : Bool) → ltb v n ≡ t → P (cond t (f v) d)
     go true e = h v (ltb-true v n e)
     go false e = z
-
--- as many bytes as a bound takes hold it
-pub range-held : (s : List ℕ) (i v : ℕ) → Bytes s → RangeHeld (boundSize s) (rangeAt s i v)
-unfolding rangeAt
-range-held s i v b =
-    let n = width-few (boundSize s) (two-or-four s) in
-    record { low-held = signed-held (boundSize s) s (lowPlace s i v) (omega arith) b; high-held = signed-held (boundSize s) s (highPlace s i v) (omega arith) b }
 
 -- a box whose ranges are within bounds
 pub box-within : (s : List ℕ) (i : ℕ) → ((v : ℕ) → v < countersOf s → RangeWithin 1000000 (rangeAt s i v)) → RangesWithin 1000000 (boxThree s i .ranges)

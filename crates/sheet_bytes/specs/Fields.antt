@@ -1,7 +1,6 @@
 -- Laws by which the readers of a sheet's fields meet their definitions.
-use mathlib.Core.Path.{_≡_, refl, sym, ap, subst, _∙_}
+use mathlib.Core.Path.{_≡_, sym, ap, subst, _∙_}
 use mathlib.Core.Logic.{inl, inr}
-use mathlib.Core.Bool.{true, false}
 use mathlib.Core.List.{List}
 use Prim.Native.Nat.{ℕ, _+_, _*_, _-_, _≤_, _<_}
 use native.Mathlib.Nat.{mul-le-mul-left}
@@ -20,9 +19,9 @@ use Rattle.sheet_bytes.specs.declared.Config.{Config}
 use Rattle.sheet_bytes.specs.declared.Move.{Move}
 use Rattle.sheet_bytes.specs.declared.Move.the-variants.{Barred, Open}
 use Rattle.sheet_bytes.specs.declared.RegionMove.{RegionMove}
-use Rattle.sheet_bytes.specs.Layout.{countersOf, wide, boundSize, offsetLimit, moveSize, regionSize, placeBy, regionPlace, movePlace, movePart, lowPlace, highPlace, rulePlace, startState, startPlace, startValue, stateAt, kindOf, sourceOf, factorOf, offsetOf}
-use Rattle.sheet_bytes.specs.Decode.{rangeAt, ruleOf, ruleAt}
-use Rattle.sheet_bytes.specs.Shape.{TwoOrFour, two-or-four, width-few, bounds-le, moveSize-le, moves-le, regions-le, region-end, start-end, bound-end, move-end, header-end, length-le, rule-end}
+use Rattle.sheet_rules.specs.Layout.{countersOf, boundSize, moveSize, regionSize, placeBy, regionPlace, movePlace, movePart, lowPlace, highPlace, rulePlace, startState, startPlace, startValue, stateAt, kindOf, sourceOf, factorOf, offsetOf}
+use Rattle.sheet_rules.specs.Decode.{rangeAt, ruleOf, ruleAt}
+use Rattle.sheet_rules.specs.Shape.{TwoOrFour, two-or-four, width-few, bounds-le, moveSize-le, moves-le, regions-le, region-end, start-end, bound-end, move-end, header-end, length-le, rule-end}
 use Rattle.sheet_bytes.specs.Three.{Read, padded, padded-in, padded-out, zeroRange, zeroRule, boxThree, startPadded, startThree, kindNamed, moveThree}
 
 -- a shape within the limits of the counts: places made of it are small
@@ -188,23 +187,6 @@ not-two n (inr e) h = e
 pub not-four : (n : ℕ) → TwoOrFour n → (n ≡ 4 → ⊥) → n ≡ 2
 not-four n (inl e) h = e
 not-four n (inr e) h = absurd (h e)
-
--- what the version decides
-pub size-wide : (s : List ℕ) → wide s ≡ true → 4 ≡ boundSize s
-unfolding boundSize
-size-wide s e = rw (e, boundSize) refl
-
-pub size-narrow : (s : List ℕ) → wide s ≡ false → 2 ≡ boundSize s
-unfolding boundSize
-size-narrow s e = rw (e, boundSize) refl
-
-pub limit-wide : (s : List ℕ) → wide s ≡ true → 200000000 ≡ offsetLimit s
-unfolding offsetLimit
-limit-wide s e = rw (e, offsetLimit) refl
-
-pub limit-narrow : (s : List ℕ) → wide s ≡ false → 4000000 ≡ offsetLimit s
-unfolding offsetLimit
-limit-narrow s e = rw (e, offsetLimit) refl
 
 -- a rule by its kind
 pub rule-set : (p : List ℕ) (o : ℤ) → kindOf p ≡ 0 → o ≡ signedAt 4 p 3 → Set o ≡ ruleOf p

@@ -1,6 +1,3 @@
-pub mod Layout
-pub mod Decode
-pub mod Shape
 pub mod Three
 pub mod Fields
 pub mod Space

@@ -25,8 +25,8 @@ use Rattle.sheet_bytes.specs.declared.Values.{Values}
 use Rattle.sheet_bytes.specs.declared.Config.{Config}
 use Rattle.sheet_bytes.specs.declared.Rules.{Rules}
 use Rattle.sheet_bytes.specs.declared.RegionMove.{RegionMove}
-use Rattle.sheet_bytes.specs.Layout.{regionsOf}
-use Rattle.sheet_bytes.specs.Decode.{boxAt, regionAt, decode}
+use Rattle.sheet_rules.specs.Layout.{regionsOf}
+use Rattle.sheet_rules.specs.Decode.{boxAt, regionAt, decode}
 use Rattle.sheet_bytes.specs.Three.{Read, boxThree, box-meant, firsts, rangesMeant, valuesMeant, rulesMeant, boxMeant, configMeant}
 
 -- a test of the first counter decides where it fails, and where there is no other

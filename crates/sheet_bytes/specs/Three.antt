@@ -23,9 +23,9 @@ use Rattle.sheet_bytes.specs.declared.Move.{Move}
 use Rattle.sheet_bytes.specs.declared.Move.the-variants.{Barred, Open}
 use Rattle.sheet_bytes.specs.declared.Rules.{Rules}
 use Rattle.sheet_bytes.specs.declared.RegionMove.{RegionMove}
-use Rattle.sheet_bytes.specs.Layout.{countersOf, actionsOf, regionsOf, boundSize, startState, startValue, stateAt, kindOf}
-use Rattle.sheet_bytes.specs.Decode.{listed, rangeAt, boxAt, ruleAt, moveOf, startOf}
-use Rattle.sheet_bytes.specs.Shape.{Shaped}
+use Rattle.sheet_rules.specs.Layout.{countersOf, actionsOf, regionsOf, boundSize, startState, startValue, stateAt, kindOf}
+use Rattle.sheet_rules.specs.Decode.{listed, rangeAt, boxAt, ruleAt, moveOf, startOf}
+use Rattle.sheet_rules.specs.Shape.{Shaped}
 
 -- the counts of a sheet and the width of its bounds, in the code's struct
 abbrev pub shapeOf : List ℕ → Shape

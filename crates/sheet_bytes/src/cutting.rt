@@ -7,9 +7,9 @@ ghost use Rattle.sheet_bytes.specs.Bounds.{RangesWithin, RulesFit};
 use crate::Ranges;
 use crate::Rules;
 use integers::Range;
-use integers::division::inverse_range;
-use integers::ranges::common;
-use integers::ranges::has;
+use machine_integers::division::inverse_range;
+use machine_integers::ranges::common;
+use machine_integers::ranges::has;
 use model::Rule;
 
 // The ranges, with that of one counter cut by another range.

@@ -3,9 +3,9 @@ ghost use mathlib.Core.Path.{_≡_};
 ghost use Prim.Native.Nat.{_+_, _<_, _≤_};
 ghost use lib.ListN.{length};
 ghost use Rattle.integers.specs.LittleEndian.{signedAt};
-ghost use Rattle.sheet_bytes.specs.Layout.{countersOf, wide, boundSize, offsetLimit, moveSize, regionSize, placeBy, startPlace, startValue, regionPlace, labelAt, stateAt, lowPlace, movePlace, movePart};
-ghost use Rattle.sheet_bytes.specs.Decode.{rangeAt, ruleOf, ruleAt};
-ghost use Rattle.sheet_bytes.specs.Shape.{TwoOrFour};
+ghost use Rattle.sheet_rules.specs.Layout.{countersOf, wide, boundSize, offsetLimit, moveSize, regionSize, placeBy, startPlace, startValue, regionPlace, labelAt, stateAt, lowPlace, movePlace, movePart};
+ghost use Rattle.sheet_rules.specs.Decode.{rangeAt, ruleOf, ruleAt};
+ghost use Rattle.sheet_rules.specs.Shape.{TwoOrFour};
 ghost use Rattle.sheet_bytes.specs.Fields.{Small};
 ghost use Rattle.sheet_bytes.specs.Three.{Read, shapeOf, padded, zeroRange, zeroRule, boxThree, startThree, startPadded, moveThree};
 use crate::Config;
@@ -17,10 +17,10 @@ use crate::Rules;
 use crate::Shape;
 use crate::Values;
 use integers::Range;
-use integers::bytes::signed8;
-use integers::bytes::signed16;
-use integers::bytes::signed32;
-use integers::bytes::unsigned16;
+use machine_integers::bytes::signed8;
+use machine_integers::bytes::signed16;
+use machine_integers::bytes::signed32;
+use machine_integers::bytes::unsigned16;
 use model::Rule;
 
 // Whether the sheet is wide, that is of version 2.

@@ -4,7 +4,7 @@ ghost use Prim.Native.Nat.{_<_, _≤_};
 ghost use lib.ListN.{getD};
 ghost use lib.IntN.{pos};
 ghost use Rattle.model.specs.Sheet.{within, inBox, applied, regionNumber};
-ghost use Rattle.sheet_bytes.specs.Decode.{decode};
+ghost use Rattle.sheet_rules.specs.Decode.{decode};
 ghost use Rattle.sheet_bytes.specs.Three.{Read, rangesMeant, valuesMeant, boxMeant, configMeant};
 ghost use Rattle.sheet_bytes.specs.Space.{RuleSafe, RulesSafe, ValuesWithin, allThree, landThree};
 use crate::Config;
@@ -14,7 +14,7 @@ use crate::RegionMove;
 use crate::Shape;
 use crate::Values;
 use crate::fields::box_at;
-use integers::ranges::has;
+use machine_integers::ranges::has;
 use model::Rule;
 
 // Whether each value is in its range. Only the sheet's own counters count.

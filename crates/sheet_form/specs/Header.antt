@@ -11,11 +11,11 @@ use Rattle.answers.specs.declared.Checked.{Checked}
 use Rattle.answers.specs.declared.Checked.the-variants.{Refused}
 use Rattle.answers.specs.Stages.{demand, demand-failed}
 use Rattle.sheet_bytes.specs.declared.Shape.{Shape}
-use Rattle.sheet_bytes.specs.Layout.{sheetMark, versionOf, countersOf, actionsOf, regionsOf, boundSize, placeBy, regionPlace}
-use Rattle.sheet_bytes.specs.Shape.{two-or-four, width-few}
+use Rattle.sheet_rules.specs.Layout.{sheetMark, versionOf, countersOf, actionsOf, regionsOf, boundSize, placeBy, regionPlace}
+use Rattle.sheet_rules.specs.Shape.{two-or-four, width-few}
 use Rattle.sheet_bytes.specs.Three.{shapeOf}
 use Rattle.sheet_bytes.specs.Fields.{Small}
-use Rattle.sheet_form.specs.Form.{sameBytes, from-to, checkHeader, checkLength}
+use Rattle.sheet_rules.specs.Form.{sameBytes, from-to, checkHeader, checkLength}
 
 -- the mark byte by byte
 abbrev markTests : List ℕ → Bool

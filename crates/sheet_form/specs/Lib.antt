@@ -1,5 +1,3 @@
-pub mod Form
 pub mod Header
 pub mod Limits
-pub mod Fits
-pub mod Version1
+pub mod BoxFits

@@ -17,11 +17,11 @@ use Rattle.answers.specs.declared.Checked.{Checked}
 use Rattle.answers.specs.declared.Checked.the-variants.{Fine}
 use Rattle.answers.specs.Stages.{andThen, demand, each}
 use Rattle.sheet_bytes.specs.declared.Shape.{Shape}
-use Rattle.sheet_bytes.specs.Layout.{offsetLimit, countersOf, actionsOf, kindOf, sourceOf, factorOf, offsetOf, rulePlace, startPlace, startValue, lowPlace, highPlace, movePlace, movePart}
-use Rattle.sheet_bytes.specs.Decode.{rangeAt}
+use Rattle.sheet_rules.specs.Layout.{offsetLimit, countersOf, actionsOf, kindOf, sourceOf, factorOf, offsetOf, rulePlace, startPlace, startValue, lowPlace, highPlace, movePlace, movePart}
+use Rattle.sheet_rules.specs.Decode.{rangeAt}
 use Rattle.sheet_bytes.specs.Three.{Read}
 use Rattle.sheet_bytes.specs.Fields.{rest}
-use Rattle.sheet_form.specs.Form.{valueLimit, checkValue, checkRule, checkZeroRule, checkMove}
+use Rattle.sheet_rules.specs.Form.{valueLimit, checkValue, checkRule, checkZeroRule, checkMove}
 
 -- the tests of a rule's source and factor
 unfoldable pub sourceRight : ℕ → List ℕ → Bool

@@ -2,11 +2,11 @@
 ghost use mathlib.Core.Path.{_≡_};
 ghost use Prim.Native.Nat.{_≤_};
 ghost use lib.ListN.{length, take};
-ghost use Rattle.sheet_bytes.specs.Layout.{countersOf, actionsOf, regionsOf, sheetMark};
-ghost use Rattle.sheet_form.specs.Form.{sameBytes, from-to, checkHeader, checkCounts, checkLength};
+ghost use Rattle.sheet_rules.specs.Layout.{countersOf, actionsOf, regionsOf, sheetMark};
+ghost use Rattle.sheet_rules.specs.Form.{sameBytes, from-to, checkHeader, checkCounts, checkLength};
 use answers::Checked;
 use answers::demanded;
-use integers::bytes::unsigned16;
+use machine_integers::bytes::unsigned16;
 use sheet_bytes::fields::place_by;
 use sheet_bytes::fields::shape_of;
 

@@ -17,3 +17,6 @@ pub mod Explored
 pub mod LockStep
 pub mod Quotient
 pub mod FirstWords
+pub mod Pairs
+pub mod PairVisiting
+pub mod PairVerdict

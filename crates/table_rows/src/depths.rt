@@ -1,7 +1,7 @@
 // How deep rows are: no sequence of at most so many actions tells the members of a row apart.
 ghost use Prim.Native.Nat.{_<_, _≤_};
-ghost use Rattle.table_rows.specs.Arrays.{TargetsRoom, BoundsRoom};
-ghost use Rattle.table_rows.specs.Depths.{Within, DeepBelow, Deepened, AtLeast, Levelled, SureDepth, DepthAfter};
+ghost use Rattle.table_rules.specs.Arrays.{TargetsRoom, BoundsRoom};
+ghost use Rattle.table_rules.specs.Depths.{Within, DeepBelow, Deepened, AtLeast, Levelled, SureDepth, DepthAfter};
 
 // The lesser of a depth and that of a row; the depth itself where there is no row (255).
 pub fn shallower(bounds: &[usize], t: usize, low: usize) -> usize

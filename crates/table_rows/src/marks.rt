@@ -1,8 +1,8 @@
 // Flags of actions, and stored targets.
 ghost use Prim.Native.Nat.{_+_, _<_, _≤_};
 ghost use lib.ListN.{length};
-ghost use Rattle.table_rows.specs.Arrays.{TargetsRoom, FlagsRoom};
-ghost use Rattle.table_rows.specs.Marks.{RaisedAt, RaisedTo, RowRaised, AnyRaised, LastRaised};
+ghost use Rattle.table_rules.specs.Arrays.{TargetsRoom, FlagsRoom};
+ghost use Rattle.table_rules.specs.Marks.{RaisedAt, RaisedTo, RowRaised, AnyRaised, LastRaised};
 
 // Raises the flags of all rows below n whose target for one action is i. The targets and flags for that action start at a place.
 pub fn raise_at(targets: &[u8], flags: &mut [u8], at: usize, i: u8, n: usize)

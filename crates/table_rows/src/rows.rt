@@ -2,7 +2,7 @@
 ghost use mathlib.Core.Path.{_≡_};
 ghost use Prim.Native.Nat.{_+_, _<_, _≤_};
 ghost use lib.ListN.{length};
-ghost use Rattle.table_rows.specs.Arrays.{CellsRoom, HomesRoom, rangeIn, rangesIn, configIn, boxIn, putRange, putRanges, putValues, putHome};
+ghost use Rattle.table_rules.specs.Arrays.{CellsRoom, HomesRoom, rangeIn, rangesIn, configIn, boxIn, putRange, putRanges, putValues, putHome};
 use integers::Range;
 use sheet_bytes::Config;
 use sheet_bytes::Ranges;

@@ -2,8 +2,8 @@
 ghost use mathlib.Core.Path.{_≡_};
 ghost use Prim.Native.Nat.{_<_, _≤_};
 ghost use Rattle.sheet_bytes.specs.Three.{Read};
-ghost use Rattle.table_rows.specs.Arrays.{CellsRoom, HomesRoom, regionIn};
-ghost use Rattle.table_rows.specs.Meaning.{holdsIn, Found, moveIn};
+ghost use Rattle.table_rules.specs.Arrays.{CellsRoom, HomesRoom, regionIn};
+ghost use Rattle.table_rules.specs.Meaning.{holdsIn, Found, moveIn};
 use crate::rows::box_in;
 use sheet_bytes::Config;
 use sheet_bytes::RegionMove;

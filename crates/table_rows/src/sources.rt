@@ -1,8 +1,8 @@
 // The lowest row that leads to a row, and the lowest that may have a flag up: nobody need look below them.
 ghost use Prim.Native.Nat.{_<_};
 ghost use lib.ListN.{length};
-ghost use Rattle.table_rows.specs.Arrays.{BoundsRoom};
-ghost use Rattle.table_rows.specs.Sources.{LoweredAt, Begun};
+ghost use Rattle.table_rules.specs.Arrays.{BoundsRoom};
+ghost use Rattle.table_rules.specs.Sources.{LoweredAt, Begun};
 
 // Lowers the number at a place to k, if it is above that.
 pub fn lower(bounds: &mut [usize], at: usize, k: usize)

@@ -1,8 +1,6 @@
 // Text on standard output, for the programs. What a program writes is tested, not proved.
 // Internal: serves sister crates; a function may ask what its callers have made sure of.
 use answers::Checked;
-use answers::FirstBarred;
-use answers::Ran;
 use libc::STDOUT_FILENO;
 
 pub fn put(s: &[u8]) {
@@ -56,45 +54,5 @@ pub fn put_checked(r: Checked) {
     match r {
         Checked::Fine => put(b"fine\n"),
         Checked::Refused { number, returned } => put_refusal(number, returned),
-    }
-}
-
-fn put_first_barred(first: FirstBarred) {
-    match first {
-        FirstBarred::Nothing => put(b"nothing barred"),
-        FirstBarred::At { index } => {
-            put(b"first barred at ");
-            put_number(index as u64);
-        }
-    }
-}
-
-pub fn put_ran(r: Ran) {
-    match r {
-        Ran::Done { entries, barred } => {
-            put_number(entries as u64);
-            put(b" entries, ");
-            put_first_barred(barred);
-            put(b"\n");
-        }
-        Ran::Refused { number, returned } => put_refusal(number, returned),
-    }
-}
-
-fn wide(x: u16) -> u64 {
-    x as u64
-}
-
-// Four entries of a buffer.
-pub fn put_entries(entries: &[u16; 4100], at: usize) {
-    if at < 4096 {
-        put_number(wide(entries[at]));
-        put(b" ");
-        put_number(wide(entries[at + 1]));
-        put(b" ");
-        put_number(wide(entries[at + 2]));
-        put(b" ");
-        put_number(wide(entries[at + 3]));
-        put(b"\n");
     }
 }

@@ -28,13 +28,13 @@ use Rattle.model.specs.Blocks.{emptied, cut, cuts, preimage, narrowed, classBox
 use Rattle.model.specs.Chart.{recordAt, labelOf, targetOf, blockNamed, chartStep, chartSystem, chartReading, sameTarget, refines, roundClass}
 use Rattle.model.specs.ChartDepth.{parts, depthOf, labelCount, depthLimit}
 use Rattle.model.specs.Listing.{numbers, numbersIn, prefixed, valuesIn, members}
-use Rattle.sheet_bytes.specs.Layout.{versionOf, wide, boundSize, offsetLimit, moveSize, regionSize, startPlace, startValue, regionPlace, labelAt, stateAt, lowPlace, highPlace, movePlace, rulePlace, factorOf, offsetOf}
-use Rattle.sheet_bytes.specs.Decode.{ruleOf, moveOf, rangeAt, boxAt, moveAt, regionAt, startOf, decode}
-use Rattle.sheet_form.specs.Form.{sameBytes, checkHeader, checkCounts, checkLength, checkValue, checkBound, checkRule, checkZeroRule, checkMove, checkFields, checkLimits}
+use Rattle.sheet_rules.specs.Layout.{versionOf, wide, boundSize, offsetLimit, moveSize, regionSize, startPlace, startValue, regionPlace, labelAt, stateAt, lowPlace, highPlace, movePlace, rulePlace, factorOf, offsetOf}
+use Rattle.sheet_rules.specs.Decode.{ruleOf, moveOf, rangeAt, boxAt, moveAt, regionAt, startOf, decode}
+use Rattle.sheet_rules.specs.Form.{sameBytes, checkHeader, checkCounts, checkLength, checkValue, checkBound, checkRule, checkZeroRule, checkMove, checkFields, checkLimits}
 use Rattle.congruence.specs.Congruence.{total, firstSolution, allBelow, allowed, eight, given, countsLeft}
-use Rattle.access_sequence.specs.Access.{leadsInto, orEmpty, wayTo}
-use Rattle.separating_sequence.specs.Separation.{partsCharts, evidence}
-use Rattle.sheet.specs.Check.{checkLabel, overlap, checkOverlap, checkStart, every, lands, checkLanding, sheetCheck}
+use Rattle.access_rules.specs.Access.{leadsInto, orEmpty, wayTo}
+use Rattle.separation_rules.specs.Separation.{partsCharts, evidence}
+use Rattle.sheet_rules.specs.Check.{checkLabel, overlap, checkOverlap, checkStart, every, lands, checkLanding, sheetCheck}
 
 -- one example: what is computed, and what document 01 says it is
 pub data Row : Type 0 where

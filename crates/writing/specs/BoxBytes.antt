@@ -20,10 +20,10 @@ use Rattle.answers.specs.Run.{overwrite}
 use Rattle.model.specs.Blocks.{signedBytes, rangeBytes}
 use Rattle.refinement.specs.Completed.{boxBytes, tableBoxes}
 use Rattle.sheet_bytes.specs.declared.Shape.{Shape}
-use Rattle.sheet_bytes.specs.Shape.{TwoOrFour, width-few, bounds-le}
+use Rattle.sheet_rules.specs.Shape.{TwoOrFour, width-few, bounds-le}
 use Rattle.sheet_bytes.specs.Three.{firsts, rangesMeant, boxMeant}
-use Rattle.table_rows.specs.Arrays.{rangeIn, rangesIn, stateIn, boxIn}
-use Rattle.table_rows.specs.Meaning.{rowIn}
+use Rattle.table_rules.specs.Arrays.{rangeIn, rangesIn, stateIn, boxIn}
+use Rattle.table_rules.specs.Meaning.{rowIn}
 use Rattle.writing.specs.Numbers.{entryIn}
 use Rattle.writing.specs.Stored.{stored, stored-one, stored-behind, stored-front, rows-le}
 

@@ -10,8 +10,8 @@ use Rattle.integers.specs.LittleEndian.{Bytes, split, joined, unsignedAt, lengt
 use Rattle.systems.specs.Lists.{collect, length-collect, length-each}
 use Rattle.answers.specs.Run.{overwrite}
 use Rattle.model.specs.Blocks.{chartMark}
-use Rattle.sheet_bytes.specs.Layout.{regionPlace, labelAt}
-use Rattle.table_rows.specs.Arrays.{regionIn, targetIn}
+use Rattle.sheet_rules.specs.Layout.{regionPlace, labelAt}
+use Rattle.table_rules.specs.Arrays.{regionIn, targetIn}
 use Rattle.writing.specs.Numbers.{entryIn}
 use Rattle.writing.specs.Stored.{stored, stored-behind, stored-front}
 

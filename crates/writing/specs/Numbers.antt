@@ -12,7 +12,7 @@ use Rattle.refinement.specs.SheetTable.{Row, Completed}
 use Rattle.refinement.specs.Numbering.{walk}
 use Rattle.refinement.specs.Walk.{Numbered, walking}
 use Rattle.refinement.specs.Ordering.{Ordering, ordering-first, ordering-row, ordering-old, ordering-room, ordering-new, ordering-next, ordering-done}
-use Rattle.table_rows.specs.Arrays.{targetIn}
+use Rattle.table_rules.specs.Arrays.{targetIn}
 
 -- entry k of an array
 abbrev pub entryIn : List ℕ → ℕ → ℕ

@@ -18,15 +18,15 @@ use Rattle.refinement.specs.SheetTable.{row-fits}
 use Rattle.refinement.specs.Completed.{rowRecord, tableChart, tableBoxes, completed-in, completed-chart, completed-boxes}
 use Rattle.sheet_bytes.specs.declared.Shape.{Shape}
 use Rattle.sheet_bytes.specs.declared.Ranges.{Ranges}
-use Rattle.sheet_bytes.specs.Layout.{countersOf, boundSize, labelAt}
-use Rattle.sheet_bytes.specs.Decode as Decode
-use Rattle.sheet_bytes.specs.Decode.{decode, rangeAt, boxAt}
-use Rattle.sheet_bytes.specs.Bounds.{each-listed, range-held}
+use Rattle.sheet_rules.specs.Layout.{countersOf, boundSize, labelAt}
+use Rattle.sheet_rules.specs.Decode as Decode
+use Rattle.sheet_rules.specs.Decode.{decode, rangeAt, boxAt}
+use Rattle.sheet_rules.specs.Listed.{each-listed, range-held}
 use Rattle.sheet_bytes.specs.Three.{firsts, rangesMeant, configMeant}
-use Rattle.table_rows.specs.Arrays.{rangeIn, rangesIn, configIn, targetIn}
-use Rattle.table_rows.specs.Meaning.{Ready, rowIn, region-listed, covered-few}
-use Rattle.minimize.specs.State.{counters-few, actions-decoded}
-use Rattle.minimize.specs.Steps.{Table}
+use Rattle.table_rules.specs.Arrays.{rangeIn, rangesIn, configIn, targetIn}
+use Rattle.table_rules.specs.Meaning.{Ready, rowIn, region-listed, covered-few}
+use Rattle.table_passes.specs.State.{counters-few, actions-decoded}
+use Rattle.table_passes.specs.Steps.{Table}
 use Rattle.writing.specs.Numbers.{entryIn, Walkable}
 use Rattle.writing.specs.ChartBytes.{headerBytes, targetByte, targetBytes, recordBytes, orderedBytes, recordsBytes, chartBytes, Placed}
 use Rattle.writing.specs.BoxBytes.{boundIn, Bounded, AllBounded}

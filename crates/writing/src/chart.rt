@@ -4,7 +4,7 @@ ghost use Prim.Native.Nat.{_+_, _*_, _<_, _≤_};
 ghost use lib.ListN.{length};
 ghost use Rattle.answers.specs.Run.{overwrite};
 ghost use Rattle.sheet_bytes.specs.Three.{Read};
-ghost use Rattle.table_rows.specs.Arrays.{HomesRoom, TargetsRoom, regionIn};
+ghost use Rattle.table_rules.specs.Arrays.{HomesRoom, TargetsRoom, regionIn};
 ghost use Rattle.writing.specs.Numbers.{OrderRoom, NumberRoom};
 ghost use Rattle.writing.specs.Stored.{stored};
 ghost use Rattle.writing.specs.ChartBytes.{headerBytes, targetBytes, recordBytes, recordsBytes, chartBytes, Placed};

@@ -2,7 +2,7 @@
 ghost use Prim.Native.Nat.{_+_, _<_};
 ghost use Rattle.refinement.specs.Numbering.{walk};
 ghost use Rattle.refinement.specs.Walk.{Numbered};
-ghost use Rattle.table_rows.specs.Arrays.{TargetsRoom, targetIn};
+ghost use Rattle.table_rules.specs.Arrays.{TargetsRoom, targetIn};
 ghost use Rattle.writing.specs.Numbers.{entryIn, OrderRoom, NumberRoom, Unnumbered, Walkable, Walked};
 
 // Looks at the target of action a in member m: it gets the next number, if it has none. Returns how many have one.

@@ -1,7 +1,7 @@
 use borrow.Author.Needs.{needs}
 use mathlib.Core.Path.{sym}
 use lib.Seq.{length-take-le}
-use Rattle.access_sequence.specs.Machine.{charted, front-counted, front-chart, front-asks, front-way, way-refused}
+use Rattle.access_rules.specs.Machine.{charted, front-counted, front-chart, front-asks, front-way, way-refused}
 use Rattle.access_sequence.proofs.find.Statement.{statement}
 use Rattle.access_sequence.proofs.find.Tie as tie
 

@@ -1,7 +1,7 @@
 use borrow.Author.Needs.{needs}
 use lib.ListN.{length}
 use Rattle.model.specs.Chart.{blocksOf}
-use Rattle.access_sequence.specs.Machine.{request-by, request-passed, accesses-done, accesses-refused}
+use Rattle.access_rules.specs.Machine.{request-by, request-passed, accesses-done, accesses-refused}
 use Rattle.access_sequence.proofs.find_on_chart.Statement.{statement}
 use Rattle.access_sequence.proofs.find_on_chart.Tie as tie
 

@@ -1,6 +1,6 @@
 use borrow.Author.Needs.{needs}
 use mathlib.Core.Path.{sym, ap}
-use Rattle.separating_sequence.specs.declared.Separation.{Separation}
+use Rattle.separation_rules.specs.declared.Separation.{Separation}
 use Rattle.c_answers.specs.Exports.{partNumber, partReturned, partEqual}
 use Rattle.c_answers.proofs.told_part.Statement.{statement}
 use Rattle.c_answers.proofs.told_part.Tie as tie

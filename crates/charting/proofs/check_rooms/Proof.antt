@@ -3,7 +3,7 @@ use Prim.Native.Nat.{_+_, _*_}
 use Rattle.answers.specs.Stages.{stop, go-on}
 use Rattle.sheet_bytes.specs.Fields.{pairs-small}
 use Rattle.writing.specs.Stored.{rows-small}
-use Rattle.charting.specs.Making.{roomsFor}
+use Rattle.making_rules.specs.Making.{roomsFor}
 use borrow.Author.Needs.{needs}
 use Rattle.charting.proofs.check_rooms.Statement.{statement}
 use Rattle.charting.proofs.check_rooms.Tie as tie

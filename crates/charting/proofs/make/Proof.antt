@@ -1,10 +1,11 @@
 use mathlib.Core.Path.{refl, sym, _∙_}
 use lib.ListN.{length}
-use Rattle.sheet_bytes.specs.Layout.{boundSize}
-use Rattle.sheet_bytes.specs.Decode.{decode}
+use Rattle.sheet_rules.specs.Layout.{boundSize}
+use Rattle.sheet_rules.specs.Decode.{decode}
 use Rattle.sheet_bytes.specs.Three.{shapeOf}
 use Rattle.sheet_bytes.specs.Fields.{header-within}
-use Rattle.charting.specs.Making.{makes-refused, makes-by, sheet-refused, sheet-passed, accepted-ready}
+use Rattle.making_rules.specs.Making.{makes-refused, makes-by, sheet-refused, sheet-passed}
+use Rattle.charting.specs.Tabled.{accepted-ready}
 use borrow.Author.Needs.{needs}
 use Rattle.charting.proofs.make.Statement.{statement}
 use Rattle.charting.proofs.make.Tie as tie

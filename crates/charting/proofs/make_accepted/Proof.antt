@@ -1,7 +1,8 @@
 use lib.ListN.{length}
-use Rattle.sheet_bytes.specs.Layout.{boundSize}
-use Rattle.sheet_bytes.specs.Decode.{decode}
-use Rattle.charting.specs.Making.{makes-refused, many-blocks, answered-many, answered-table}
+use Rattle.sheet_rules.specs.Layout.{boundSize}
+use Rattle.sheet_rules.specs.Decode.{decode}
+use Rattle.making_rules.specs.Making.{makes-refused, many-blocks}
+use Rattle.charting.specs.Tabled.{answered-many, answered-table}
 use borrow.Author.Needs.{needs}
 use Rattle.charting.proofs.make_accepted.Statement.{statement}
 use Rattle.charting.proofs.make_accepted.Tie as tie

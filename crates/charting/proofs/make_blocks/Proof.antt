@@ -1,10 +1,11 @@
 use Prim.Native.Nat.{_+_, _*_}
 use mathlib.Core.Path.{sym, _∙_}
 use lib.ListN.{length}
-use Rattle.sheet_bytes.specs.Layout.{boundSize}
-use Rattle.sheet_bytes.specs.Decode.{decode}
+use Rattle.sheet_rules.specs.Layout.{boundSize}
+use Rattle.sheet_rules.specs.Decode.{decode}
 use Rattle.sheet_bytes.specs.Fields.{small}
-use Rattle.charting.specs.Making.{makes-refused, makes-done, rooms-checked, rooms-fit, table-blocks}
+use Rattle.making_rules.specs.Making.{makes-refused, makes-done, rooms-fit}
+use Rattle.charting.specs.Tabled.{rooms-checked, table-blocks}
 use borrow.Author.Needs.{needs}
 use Rattle.charting.proofs.make_blocks.Statement.{statement}
 use Rattle.charting.proofs.make_blocks.Tie as tie

@@ -1,5 +1,5 @@
 use Rattle.integers.specs.LittleEndian.{Bytes}
-use Rattle.claims.specs.Proofs.{demand-2-of, demand-3-of}
+use Rattle.making_rules.specs.Proofs.{demand-2-of, demand-3-of}
 use borrow.Author.Needs.{needs}
 use Rattle.claims.proofs.make_two.Statement.{statement}
 use Rattle.claims.proofs.make_two.Tie as tie

@@ -1,5 +1,5 @@
 use mathlib.Core.Path.{ap, _∙_}
-use Rattle.separating_sequence.specs.declared.Separation.{Separation}
+use Rattle.separation_rules.specs.declared.Separation.{Separation}
 use Rattle.c_answers.specs.Exports.{partNumber, partReturned, partEqual}
 use borrow.Author.Needs.{needs}
 use Rattle.pilfstera.proofs.pilfstera_part.Statement.{statement}

@@ -12,7 +12,7 @@ use Rattle.set_point.proofs.is_allowed.Tie as tie
 use Rattle.set_point.proofs.is_allowed.Reads as reads
 use Rattle.set_point.proofs.is_allowed.Lts as lts
 use Rattle.set_point.proofs.is_factor.Reads as is-factor-reads
-use Rattle.integers.proofs.ranges.near_zero.Reads as near-zero-reads
+use Rattle.machine_integers.proofs.ranges.near_zero.Reads as near-zero-reads
 
 is-factor-requires : tie.Need-is-factor-requires
 is-factor-requires c κs = search needs

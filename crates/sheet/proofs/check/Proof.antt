@@ -1,7 +1,7 @@
 use mathlib.Core.Path.{sym, _∙_}
 use Rattle.answers.specs.Stages.{stop, go-on}
-use Rattle.sheet.specs.Check.{sheetCheck}
-use Rattle.sheet.specs.Accepted.{shaped}
+use Rattle.sheet_rules.specs.Check.{sheetCheck}
+use Rattle.sheet_rules.specs.Accepted.{shaped}
 use Rattle.sheet.specs.Whole.{contentsCheck, header-long, counts-few, read-shape}
 use borrow.Author.Needs.{needs}
 use Rattle.sheet.proofs.check.Statement.{statement}

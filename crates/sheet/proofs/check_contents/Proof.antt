@@ -1,6 +1,6 @@
 use mathlib.Core.Path.{sym, _∙_}
 use Rattle.answers.specs.Stages.{stop, go-on}
-use Rattle.sheet_form.specs.Fits.{limits-fields}
+use Rattle.sheet_rules.specs.Fits.{limits-fields}
 use Rattle.sheet.specs.Whole.{contentsCheck}
 use borrow.Author.Needs.{needs}
 use Rattle.sheet.proofs.check_contents.Statement.{statement}

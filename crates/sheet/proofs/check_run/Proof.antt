@@ -3,10 +3,10 @@ use native.Mathlib.Omega.{arith}
 use Rattle.answers.specs.Stages.{stop, go-on}
 use Rattle.answers.specs.Run.{runChecks}
 use Rattle.sheet_bytes.specs.declared.Shape.{Shape}
-use Rattle.sheet_bytes.specs.Layout.{actionsOf}
-use Rattle.sheet_bytes.specs.Shape.{header-end}
-use Rattle.sheet.specs.Accepted.{stages}
-use Rattle.sheet.specs.RunSheet.{sheetRunCheck}
+use Rattle.sheet_rules.specs.Layout.{actionsOf}
+use Rattle.sheet_rules.specs.Shape.{header-end}
+use Rattle.sheet_rules.specs.Accepted.{stages}
+use Rattle.sheet_rules.specs.RunSheet.{sheetRunCheck}
 use borrow.Author.Needs.{needs}
 use Rattle.sheet.proofs.check_run.Statement.{statement}
 use Rattle.sheet.proofs.check_run.Tie as tie

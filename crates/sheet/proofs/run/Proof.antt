@@ -3,12 +3,12 @@ use native.Mathlib.Omega.{arith}
 use lib.ListN.{length}
 use Rattle.answers.specs.Walk.{run-done, run-refused}
 use Rattle.model.specs.Sheet.{sheetReading}
-use Rattle.sheet_bytes.specs.Decode.{decode}
-use Rattle.sheet_bytes.specs.Shape.{header-end}
-use Rattle.sheet.specs.Accepted.{stages}
+use Rattle.sheet_rules.specs.Decode.{decode}
+use Rattle.sheet_rules.specs.Shape.{header-end}
+use Rattle.sheet_rules.specs.Accepted.{stages}
 use Rattle.sheet.specs.Whole.{read-shape}
 use Rattle.sheet.specs.Walk.{run-passed}
-use Rattle.sheet.specs.RunSheet.{sheetRan, sheetLeft}
+use Rattle.sheet_rules.specs.RunSheet.{sheetRan, sheetLeft}
 use borrow.Author.Needs.{needs}
 use Rattle.sheet.proofs.run.Statement.{statement}
 use Rattle.sheet.proofs.run.Tie as tie

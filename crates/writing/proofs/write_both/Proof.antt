@@ -5,7 +5,7 @@ use mathlib.Core.List.{List}
 use lib.ListN.{getD-replicate}
 use Rattle.answers.specs.Run.{overwrite}
 use Rattle.sheet_bytes.specs.Fields.{width-right}
-use Rattle.minimize.specs.State.{counters-few}
+use Rattle.table_passes.specs.State.{counters-few}
 use Rattle.writing.specs.Written.{table-walkable, table-placed, table-bounded, table-chart, table-boxes}
 use borrow.Author.Needs.{needs}
 use Rattle.writing.proofs.write_both.Statement.{statement}

@@ -1,7 +1,7 @@
 use Prim.Native.Nat.{ℕ, _-_, _≤_, _<_}
 use native.Mathlib.Omega.{arith}
 use borrow.Author.Tests.{not-true, not-false}
-use Rattle.sheet_bytes.specs.Decode.{decode}
+use Rattle.sheet_rules.specs.Decode.{decode}
 use Rattle.depth_bound.specs.Depth.{UnitRegion}
 use Rattle.depth_bound.specs.Factors.{below-more, factors-not, factors-unit}
 use Rattle.depth_bound.proofs.factors.unit_factors.Statement.{statement}

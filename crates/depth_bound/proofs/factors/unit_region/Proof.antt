@@ -2,7 +2,7 @@ use Prim.Native.Nat.{ℕ, _-_, _≤_, _<_}
 use native.Mathlib.Omega.{arith}
 use borrow.Author.Tests.{not-true, not-false}
 use Rattle.model.specs.DepthBound.{UnitMove}
-use Rattle.sheet_bytes.specs.Decode.{moveAt}
+use Rattle.sheet_rules.specs.Decode.{moveAt}
 use Rattle.depth_bound.specs.Factors.{below-more, move-tells, region-not, region-unit}
 use Rattle.depth_bound.proofs.factors.unit_region.Statement.{statement}
 use Rattle.depth_bound.proofs.factors.unit_region.Tie as tie

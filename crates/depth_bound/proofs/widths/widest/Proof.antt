@@ -1,6 +1,6 @@
 use Prim.Native.Nat.{ℕ, _-_, _≤_, _<_}
 use native.Mathlib.Omega.{arith}
-use Rattle.sheet_bytes.specs.Decode.{decode}
+use Rattle.sheet_rules.specs.Decode.{decode}
 use Rattle.depth_bound.specs.Depth.{NarrowRegion}
 use Rattle.depth_bound.specs.Widths.{box-fits, widened-le, narrow-more, narrow-all}
 use Rattle.depth_bound.proofs.widths.widest.Statement.{statement}

@@ -1,8 +1,7 @@
 use native.Mathlib.Omega.{arith}
 use mathlib.Core.Path.{_∙_}
 use borrow.Author.Needs.{needs}
-use Rattle.minimize.specs.Steps.{started-covered, started}
-use borrow.Author.Needs.{needs}
+use Rattle.table_passes.specs.Steps.{started-covered, started}
 use Rattle.minimize.proofs.table.begin.Statement.{statement}
 use Rattle.minimize.proofs.table.begin.Tie as tie
 use Rattle.sheet_bytes.proofs.fields.start_of.Reads as start-of-reads

@@ -1,8 +1,7 @@
 use native.Mathlib.Omega.{arith}
 use mathlib.Core.Path.{refl, _∙_}
 use borrow.Author.Needs.{needs}
-use Rattle.minimize.specs.Steps.{answer-many, answer-done}
-use borrow.Author.Needs.{needs}
+use Rattle.table_passes.specs.Steps.{answer-many, answer-done}
 use Rattle.minimize.proofs.table.refine.Statement.{statement}
 use Rattle.minimize.proofs.table.refine.Tie as tie
 use Rattle.depth_bound.proofs.doublings.Reads as doublings-reads

@@ -1,13 +1,13 @@
 use native.Mathlib.Omega.{arith}
 use mathlib.Core.Path.{sym, _∙_}
 use mathlib.Core.Logic.{⊎-elim}
-use Rattle.minimize.specs.State.{counters-few, actions-few}
-use Rattle.minimize.specs.Steps.{measureIn, stable-many, stable-now}
-use Rattle.minimize.specs.Passes.{Sweeping, sweeping-first, sweeping-exact, sweeping-sure, sweeping-many, sweeping-less, sweeping-on}
+use Rattle.table_passes.specs.State.{counters-few, actions-few}
+use Rattle.table_passes.specs.Steps.{measureIn, stable-many, stable-now}
+use Rattle.table_passes.specs.Passes.{Sweeping, sweeping-first, sweeping-exact, sweeping-sure, sweeping-many, sweeping-less, sweeping-on}
 use Rattle.minimize.proofs.table.stabilize.Statement.{statement}
 use Rattle.minimize.proofs.table.stabilize.Tie as tie
 use Rattle.depth_bound.proofs.exact_depth.Reads as exact-depth-reads
-use Rattle.minimize.proofs.table.sweep.Reads as sweep-reads
+use Rattle.table_passes.proofs.sweep.sweep.Reads as sweep-reads
 use Rattle.table_rows.proofs.depths.depth_after.Reads as depth-after-reads
 use Rattle.table_rows.proofs.depths.sure_depth.Reads as sure-depth-reads
 use Rattle.table_rows.proofs.marks.last_raised.Reads as last-raised-reads

@@ -1,5 +1,5 @@
 use mathlib.Core.Path.{sym, _∙_}
-use Rattle.sheet_bytes.specs.Fields.{size-wide, size-narrow}
+use Rattle.sheet_rules.specs.Shape.{size-wide, size-narrow}
 use borrow.Author.Needs.{needs}
 use Rattle.sheet_bytes.proofs.fields.bound_size.Statement.{statement}
 use Rattle.sheet_bytes.proofs.fields.bound_size.Tie as tie

@@ -1,7 +1,7 @@
 use Prim.Native.Nat.{ℕ}
 use mathlib.Core.Path.{ap}
 use lib.Dec.{eqb}
-use Rattle.sheet_bytes.specs.Layout.{versionOf, wide}
+use Rattle.sheet_rules.specs.Layout.{versionOf, wide}
 use borrow.Author.Needs.{needs}
 use Rattle.sheet_bytes.proofs.fields.is_wide.Statement.{statement}
 use Rattle.sheet_bytes.proofs.fields.is_wide.Tie as tie

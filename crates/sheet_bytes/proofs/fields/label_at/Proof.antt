@@ -2,7 +2,7 @@ use mathlib.Core.Path.{_∙_, ap}
 use Prim.Native.Nat.{ℕ}
 use native.Mathlib.Omega.{arith}
 use Rattle.integers.specs.LittleEndian.{unsignedAt}
-use Rattle.sheet_bytes.specs.Layout.{labelAt}
+use Rattle.sheet_rules.specs.Layout.{labelAt}
 use Rattle.sheet_bytes.specs.Fields.{region-within}
 use borrow.Author.Needs.{needs}
 use Rattle.sheet_bytes.proofs.fields.label_at.Statement.{statement}

@@ -1,5 +1,5 @@
 use native.Mathlib.Omega.{arith}
-use Rattle.sheet_bytes.specs.Layout.{moveSize}
+use Rattle.sheet_rules.specs.Layout.{moveSize}
 use Rattle.sheet_bytes.specs.Fields.{counters-limit, move-within, length-rest, part-read}
 use borrow.Author.Needs.{needs}
 use Rattle.sheet_bytes.proofs.fields.move_at.Statement.{statement}

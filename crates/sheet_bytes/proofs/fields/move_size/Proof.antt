@@ -1,5 +1,5 @@
 use mathlib.Core.Path.{refl}
-use Rattle.sheet_bytes.specs.Layout.{moveSize}
+use Rattle.sheet_rules.specs.Layout.{moveSize}
 use borrow.Author.Needs.{needs}
 use Rattle.sheet_bytes.proofs.fields.move_size.Statement.{statement}
 use Rattle.sheet_bytes.proofs.fields.move_size.Tie as tie

@@ -1,5 +1,5 @@
 use mathlib.Core.Path.{sym, _∙_}
-use Rattle.sheet_bytes.specs.Fields.{limit-wide, limit-narrow}
+use Rattle.sheet_rules.specs.Shape.{limit-wide, limit-narrow}
 use borrow.Author.Needs.{needs}
 use Rattle.sheet_bytes.proofs.fields.offset_limit.Statement.{statement}
 use Rattle.sheet_bytes.proofs.fields.offset_limit.Tie as tie

@@ -1,5 +1,5 @@
 use mathlib.Core.Path.{sym, _∙_}
-use Rattle.sheet_bytes.specs.Decode.{rangeAt}
+use Rattle.sheet_rules.specs.Decode.{rangeAt}
 use Rattle.sheet_bytes.specs.Three.{padded-in, padded-out, zeroRange}
 use borrow.Author.Needs.{needs}
 use Rattle.sheet_bytes.proofs.fields.range_or_zero.Statement.{statement}

@@ -1,7 +1,7 @@
 use native.Mathlib.Omega.{arith}
 use mathlib.Core.Logic.{⊎-elim}
 use mathlib.Core.Path.{_∙_}
-use Rattle.sheet_bytes.specs.Layout.{kindOf}
+use Rattle.sheet_rules.specs.Layout.{kindOf}
 use lib.ListN.{length}
 use Rattle.sheet_bytes.specs.Fields.{move-some, move-made, kind-barred, kind-open}
 use borrow.Author.Needs.{needs}

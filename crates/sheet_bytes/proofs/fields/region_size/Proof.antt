@@ -1,7 +1,7 @@
 use native.Mathlib.Omega.{arith}
 use Prim.Native.Nat.{ℕ, _+_, _*_}
 use mathlib.Core.Path.{ap}
-use Rattle.sheet_bytes.specs.Layout.{regionSize}
+use Rattle.sheet_rules.specs.Layout.{regionSize}
 use Rattle.sheet_bytes.specs.Fields.{pairs-small, moves-small}
 use Rattle.sheet_bytes.proofs.fields.region_size.Statement.{statement}
 use Rattle.sheet_bytes.proofs.fields.region_size.Tie as tie

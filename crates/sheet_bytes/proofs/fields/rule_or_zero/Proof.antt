@@ -3,7 +3,7 @@ use Rattle.sheet_bytes.specs.Fields.{length-rest, rule-within, rule-in}
 use native.Mathlib.Omega.{arith}
 use mathlib.Core.Path.{sym}
 use lib.ListN.{length}
-use Rattle.sheet_bytes.specs.Decode.{ruleAt}
+use Rattle.sheet_rules.specs.Decode.{ruleAt}
 use Rattle.sheet_bytes.specs.Three.{padded-out, zeroRule}
 use borrow.Author.Needs.{needs}
 use Rattle.sheet_bytes.proofs.fields.rule_or_zero.Statement.{statement}

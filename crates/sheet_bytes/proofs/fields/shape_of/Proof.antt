@@ -1,7 +1,7 @@
 use native.Mathlib.Omega.{arith}
 use mathlib.Core.Path.{ap}
 use Prim.Native.Nat.{ℕ}
-use Rattle.sheet_bytes.specs.Layout.{countersOf, actionsOf, regionsOf}
+use Rattle.sheet_rules.specs.Layout.{countersOf, actionsOf, regionsOf}
 use borrow.Author.Needs.{needs}
 use Rattle.sheet_bytes.proofs.fields.shape_of.Statement.{statement}
 use Rattle.sheet_bytes.proofs.fields.shape_of.Tie as tie

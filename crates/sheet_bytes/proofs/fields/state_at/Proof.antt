@@ -2,7 +2,7 @@ use mathlib.Core.Path.{ap}
 use Prim.Native.Nat.{ℕ, _+_}
 use native.Mathlib.Omega.{arith}
 use lib.ListN.{getD}
-use Rattle.sheet_bytes.specs.Layout.{stateAt}
+use Rattle.sheet_rules.specs.Layout.{stateAt}
 use Rattle.sheet_bytes.specs.Fields.{region-within, sheet-short}
 use borrow.Author.Needs.{needs}
 use Rattle.sheet_bytes.proofs.fields.state_at.Statement.{statement}

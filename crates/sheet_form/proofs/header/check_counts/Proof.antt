@@ -1,6 +1,6 @@
 use native.Mathlib.Omega.{arith}
 use Rattle.answers.specs.Stages.{stop, go-on, demand-by}
-use Rattle.sheet_form.specs.Form.{checkCounts}
+use Rattle.sheet_rules.specs.Form.{checkCounts}
 use borrow.Author.Needs.{needs}
 use Rattle.sheet_form.proofs.header.check_counts.Statement.{statement}
 use Rattle.sheet_form.proofs.header.check_counts.Tie as tie

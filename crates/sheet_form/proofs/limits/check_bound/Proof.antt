@@ -4,7 +4,7 @@ use mir.Val.{SFits}
 use mir.ValLaws.{toZ-ofZ}
 use Rattle.answers.specs.Stages.{stop, go-on}
 use Rattle.sheet_bytes.specs.Fields.{low-within, sheet-short}
-use Rattle.sheet_form.specs.Form.{checkBound}
+use Rattle.sheet_rules.specs.Form.{checkBound}
 use Rattle.sheet_form.specs.Limits.{low-stage, high-stage, order-stage}
 use borrow.Author.Needs.{needs}
 use Rattle.sheet_form.proofs.limits.check_bound.Statement.{statement}

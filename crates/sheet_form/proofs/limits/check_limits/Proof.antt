@@ -1,5 +1,5 @@
 use Rattle.answers.specs.Stages.{stop, go-on}
-use Rattle.sheet_form.specs.Form.{checkLimits}
+use Rattle.sheet_rules.specs.Form.{checkLimits}
 use borrow.Author.Needs.{needs}
 use Rattle.sheet_form.proofs.limits.check_limits.Statement.{statement}
 use Rattle.sheet_form.proofs.limits.check_limits.Tie as tie

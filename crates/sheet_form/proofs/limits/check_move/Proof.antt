@@ -3,7 +3,7 @@ use native.Mathlib.Omega.{arith}
 use lib.ListN.{length}
 use Rattle.answers.specs.Stages.{stop, go-on}
 use Rattle.sheet_bytes.specs.Fields.{move-some}
-use Rattle.sheet_form.specs.Form.{checkMove}
+use Rattle.sheet_rules.specs.Form.{checkMove}
 use Rattle.sheet_form.specs.Limits.{move-zero, move-open}
 use borrow.Author.Needs.{needs}
 use Rattle.sheet_form.proofs.limits.check_move.Statement.{statement}

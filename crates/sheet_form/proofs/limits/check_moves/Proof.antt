@@ -4,7 +4,7 @@ use Prim.Native.Nat.{_≤_, _-_}
 use native.Mathlib.Omega.{arith}
 use Rattle.answers.specs.declared.Checked.the-variants.{Fine}
 use Rattle.answers.specs.Stages.{each, each-none, loop-stop, loop-more, loop-end}
-use Rattle.sheet_bytes.specs.Layout.{actionsOf, moveSize}
+use Rattle.sheet_rules.specs.Layout.{actionsOf, moveSize}
 use Rattle.sheet_bytes.specs.Fields.{header-within, move-within, sheet-short, length-rest}
 use Rattle.sheet_form.specs.Limits.{checkMoves, moveChecked, move-checked}
 use Rattle.sheet_form.proofs.limits.check_moves.Statement.{statement}

@@ -3,9 +3,9 @@ use mathlib.Core.List.{List}
 use Prim.Native.Nat.{ℕ, _+_, _*_}
 use native.Mathlib.Omega.{arith}
 use lib.ListN.{length}
-use Rattle.sheet_bytes.specs.Layout.{rulePlace}
+use Rattle.sheet_rules.specs.Layout.{rulePlace}
 use Rattle.sheet_bytes.specs.Fields.{rule-within, move-some, rest, length-rest}
-use Rattle.sheet_form.specs.Form.{checkRule, checkZeroRule}
+use Rattle.sheet_rules.specs.Form.{checkRule, checkZeroRule}
 use Rattle.sheet_form.specs.Limits.{one-zero, one-open}
 use borrow.Author.Needs.{needs}
 use Rattle.sheet_form.proofs.limits.check_one.Statement.{statement}

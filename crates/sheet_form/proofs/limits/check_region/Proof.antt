@@ -1,6 +1,6 @@
 use lib.Dec.{ltb}
 use Rattle.answers.specs.Stages.{stop, go-on, demand-at}
-use Rattle.sheet_form.specs.Form.{checkFields}
+use Rattle.sheet_rules.specs.Form.{checkFields}
 use Rattle.sheet_form.specs.Limits.{checkMoves}
 use borrow.Author.Needs.{needs}
 use Rattle.sheet_form.proofs.limits.check_region.Statement.{statement}

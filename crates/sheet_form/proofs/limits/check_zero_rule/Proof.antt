@@ -2,7 +2,7 @@ use mir.Syntax.{w64}
 use mir.Val.{SFits}
 use mir.ValLaws.{toZ-ofZ}
 use Rattle.answers.specs.Stages.{stop, go-on, demand-by}
-use Rattle.sheet_form.specs.Form.{checkZeroRule}
+use Rattle.sheet_rules.specs.Form.{checkZeroRule}
 use Rattle.sheet_form.specs.Limits.{factor-read, offset-read}
 use borrow.Author.Needs.{needs}
 use Rattle.sheet_form.proofs.limits.check_zero_rule.Statement.{statement}

@@ -1,6 +1,6 @@
 use native.Mathlib.Omega.{arith}
 use Prim.Native.Nat.{_-_, _≤_}
-use Rattle.table_rows.specs.Depths.{AtLeast, least-more}
+use Rattle.table_rules.specs.Depths.{AtLeast, least-more}
 use Rattle.table_rows.proofs.depths.common_depth.Statement.{statement}
 use Rattle.table_rows.proofs.depths.common_depth.Tie as tie
 use Rattle.table_rows.proofs.depths.shallower.Reads as shallower-reads

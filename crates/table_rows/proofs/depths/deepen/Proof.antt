@@ -1,6 +1,6 @@
 use native.Mathlib.Omega.{arith}
 use mathlib.Core.Logic.{inr}
-use Rattle.table_rows.specs.Depths.{deepened-left, deepened-to}
+use Rattle.table_rules.specs.Depths.{deepened-left, deepened-to}
 use borrow.Author.Needs.{needs}
 use Rattle.table_rows.proofs.depths.deepen.Statement.{statement}
 use Rattle.table_rows.proofs.depths.deepen.Tie as tie

@@ -2,8 +2,7 @@ use native.Mathlib.Omega.{arith}
 use Prim.Native.Nat.{_+_}
 use mathlib.Core.Path.{refl}
 use borrow.Author.Needs.{needs}
-use Rattle.table_rows.specs.Depths.{levelled-none, anew, deeper}
-use borrow.Author.Needs.{needs}
+use Rattle.table_rules.specs.Depths.{levelled-none, anew, deeper}
 use Rattle.table_rows.proofs.depths.depth_after.Statement.{statement}
 use Rattle.table_rows.proofs.depths.depth_after.Tie as tie
 use Rattle.table_rows.proofs.depths.level.Reads as level-reads

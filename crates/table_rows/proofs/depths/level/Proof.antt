@@ -1,7 +1,7 @@
 use native.Mathlib.Omega.{arith}
 use Prim.Native.Nat.{_-_, _≤_}
 use mathlib.Core.Logic.{inl, inr, ⊎-elim}
-use Rattle.table_rows.specs.Depths.{Levelled, levelled-none, levelled-more}
+use Rattle.table_rules.specs.Depths.{Levelled, levelled-none, levelled-more}
 use Rattle.table_rows.proofs.depths.level.Statement.{statement}
 use Rattle.table_rows.proofs.depths.level.Tie as tie
 

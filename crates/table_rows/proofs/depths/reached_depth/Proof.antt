@@ -1,6 +1,6 @@
 use native.Mathlib.Omega.{arith}
 use Prim.Native.Nat.{_+_, _*_, _-_, _≤_}
-use Rattle.table_rows.specs.Depths.{DeepBelow, below-more}
+use Rattle.table_rules.specs.Depths.{DeepBelow, below-more}
 use Rattle.table_rows.proofs.depths.reached_depth.Statement.{statement}
 use Rattle.table_rows.proofs.depths.reached_depth.Tie as tie
 use Rattle.table_rows.proofs.depths.shallower.Reads as shallower-reads

@@ -1,7 +1,6 @@
 use native.Mathlib.Omega.{arith}
 use borrow.Author.Needs.{needs}
-use Rattle.table_rows.specs.Depths.{sure-known, sure-each}
-use borrow.Author.Needs.{needs}
+use Rattle.table_rules.specs.Depths.{sure-known, sure-each}
 use Rattle.table_rows.proofs.depths.sure_depth.Statement.{statement}
 use Rattle.table_rows.proofs.depths.sure_depth.Tie as tie
 use Rattle.table_rows.proofs.depths.common_depth.Reads as common-depth-reads

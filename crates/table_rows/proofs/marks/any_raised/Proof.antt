@@ -1,6 +1,6 @@
 use native.Mathlib.Omega.{arith}
 use Prim.Native.Nat.{_-_, _≤_}
-use Rattle.table_rows.specs.Marks.{DownBelow, below-more, any-here, any-none}
+use Rattle.table_rules.specs.Marks.{DownBelow, below-more, any-here, any-none}
 use Rattle.table_rows.proofs.marks.any_raised.Statement.{statement}
 use Rattle.table_rows.proofs.marks.any_raised.Tie as tie
 

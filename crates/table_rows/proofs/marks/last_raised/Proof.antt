@@ -1,7 +1,7 @@
 use native.Mathlib.Omega.{arith}
 use Prim.Native.Nat.{_≤_}
 use borrow.Author.Tests.{not-true, not-false}
-use Rattle.table_rows.specs.Marks.{DownFrom, from-more}
+use Rattle.table_rules.specs.Marks.{DownFrom, from-more}
 use Rattle.table_rows.proofs.marks.last_raised.Statement.{statement}
 use Rattle.table_rows.proofs.marks.last_raised.Tie as tie
 use Rattle.table_rows.proofs.marks.any_raised.Reads as any-raised-reads

@@ -1,7 +1,7 @@
 use native.Mathlib.Omega.{arith}
 use Prim.Native.Nat.{_-_, _≤_}
 use mathlib.Core.Path.{subst}
-use Rattle.table_rows.specs.Marks.{RaisedTo, raised-none, raised-more}
+use Rattle.table_rules.specs.Marks.{RaisedTo, raised-none, raised-more}
 use Rattle.table_rows.proofs.marks.raise.Statement.{statement}
 use Rattle.table_rows.proofs.marks.raise.Tie as tie
 use Rattle.table_rows.proofs.marks.raise_at.Reads as raise-at-reads

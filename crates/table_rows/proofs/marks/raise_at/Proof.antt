@@ -3,7 +3,7 @@ use Prim.Native.Nat.{_+_, _-_, _≤_}
 use mathlib.Core.Path.{subst, _∙_}
 use mathlib.Core.Logic.{⊎-elim}
 use lib.ListN.{getD}
-use Rattle.table_rows.specs.Marks.{raisedBy, raised-up, raised-left, StoredFrom, stored-none, stored-more}
+use Rattle.table_rules.specs.Marks.{raisedBy, raised-up, raised-left, StoredFrom, stored-none, stored-more}
 use Rattle.table_rows.proofs.marks.raise_at.Statement.{statement}
 use Rattle.table_rows.proofs.marks.raise_at.Tie as tie
 

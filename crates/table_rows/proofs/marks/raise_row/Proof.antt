@@ -1,6 +1,6 @@
 use native.Mathlib.Omega.{arith}
 use Prim.Native.Nat.{_-_, _≤_}
-use Rattle.table_rows.specs.Marks.{RowRaisedTo, row-none, row-more, row-all}
+use Rattle.table_rules.specs.Marks.{RowRaisedTo, row-none, row-more, row-all}
 use Rattle.table_rows.proofs.marks.raise_row.Statement.{statement}
 use Rattle.table_rows.proofs.marks.raise_row.Tie as tie
 

@@ -1,4 +1,4 @@
-use Rattle.table_rows.specs.Arrays.{box-read}
+use Rattle.table_rules.specs.Arrays.{box-read}
 use borrow.Author.Needs.{needs}
 use Rattle.table_rows.proofs.rows.box_in.Statement.{statement}
 use Rattle.table_rows.proofs.rows.box_in.Tie as tie

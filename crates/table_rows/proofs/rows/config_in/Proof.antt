@@ -4,7 +4,7 @@ use mir.ValLaws.{toZ-ofZ}
 use lib.ListN.{getD}
 use lib.IntN.{pos}
 use Prim.Native.Nat.{_+_, _*_}
-use Rattle.table_rows.specs.Arrays.{config-read}
+use Rattle.table_rules.specs.Arrays.{config-read}
 use borrow.Author.Needs.{needs}
 use Rattle.table_rows.proofs.rows.config_in.Statement.{statement}
 use Rattle.table_rows.proofs.rows.config_in.Tie as tie

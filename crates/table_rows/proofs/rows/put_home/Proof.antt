@@ -1,7 +1,7 @@
 use native.Mathlib.Omega.{arith}
 use lib.ListN.{length-set}
 use mathlib.Core.Path.{refl}
-use Rattle.table_rows.specs.Arrays.{putHome}
+use Rattle.table_rules.specs.Arrays.{putHome}
 use borrow.Author.Needs.{needs}
 use Rattle.table_rows.proofs.rows.put_home.Statement.{statement}
 use Rattle.table_rows.proofs.rows.put_home.Tie as tie

@@ -3,7 +3,7 @@ use mir.Val.{SFits}
 use mir.ValLaws.{toZ-ofZ}
 use native.Mathlib.Omega.{arith}
 use lib.ListN.{length-set}
-use Rattle.table_rows.specs.Arrays.{range-write}
+use Rattle.table_rules.specs.Arrays.{range-write}
 use borrow.Author.Needs.{needs}
 use Rattle.table_rows.proofs.rows.put_range.Statement.{statement}
 use Rattle.table_rows.proofs.rows.put_range.Tie as tie

@@ -1,4 +1,4 @@
-use Rattle.table_rows.specs.Arrays.{ranges-write}
+use Rattle.table_rules.specs.Arrays.{ranges-write}
 use borrow.Author.Needs.{needs}
 use Rattle.table_rows.proofs.rows.put_ranges.Statement.{statement}
 use Rattle.table_rows.proofs.rows.put_ranges.Tie as tie

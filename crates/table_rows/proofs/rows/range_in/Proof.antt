@@ -4,7 +4,7 @@ use mir.ValLaws.{toZ-ofZ}
 use lib.ListN.{getD}
 use Prim.Native.Nat.{_+_}
 use lib.IntN.{pos}
-use Rattle.table_rows.specs.Arrays.{range-read}
+use Rattle.table_rules.specs.Arrays.{range-read}
 use borrow.Author.Needs.{needs}
 use Rattle.table_rows.proofs.rows.range_in.Statement.{statement}
 use Rattle.table_rows.proofs.rows.range_in.Tie as tie

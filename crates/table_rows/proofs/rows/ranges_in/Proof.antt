@@ -1,4 +1,4 @@
-use Rattle.table_rows.specs.Arrays.{ranges-read}
+use Rattle.table_rules.specs.Arrays.{ranges-read}
 use borrow.Author.Needs.{needs}
 use Rattle.table_rows.proofs.rows.ranges_in.Statement.{statement}
 use Rattle.table_rows.proofs.rows.ranges_in.Tie as tie

@@ -1,6 +1,6 @@
 use mathlib.Core.Path.{sym, _∙_}
 use native.Mathlib.Omega.{arith}
-use Rattle.table_rows.specs.Meaning.{found-here}
+use Rattle.table_rules.specs.Meaning.{found-here}
 use borrow.Author.Needs.{needs}
 use Rattle.table_rows.proofs.search.find.Statement.{statement}
 use Rattle.table_rows.proofs.search.find.Tie as tie

@@ -1,4 +1,4 @@
-use Rattle.table_rows.specs.Meaning.{holds-read}
+use Rattle.table_rules.specs.Meaning.{holds-read}
 use borrow.Author.Needs.{needs}
 use Rattle.table_rows.proofs.search.holds.Statement.{statement}
 use Rattle.table_rows.proofs.search.holds.Tie as tie

@@ -1,8 +1,8 @@
 use native.Mathlib.Omega.{arith}
 use Rattle.sheet_bytes.specs.Fields.{move-within, counters-limit, length-rest}
-use Rattle.sheet_bytes.specs.Layout.{moveSize}
-use Rattle.table_rows.specs.Arrays.{regionIn}
-use Rattle.table_rows.specs.Meaning.{move-part}
+use Rattle.sheet_rules.specs.Layout.{moveSize}
+use Rattle.table_rules.specs.Arrays.{regionIn}
+use Rattle.table_rules.specs.Meaning.{move-part}
 use borrow.Author.Needs.{needs}
 use Rattle.table_rows.proofs.search.move_in.Statement.{statement}
 use Rattle.table_rows.proofs.search.move_in.Tie as tie

@@ -1,7 +1,7 @@
 use native.Mathlib.Omega.{arith}
 use Prim.Native.Nat.{_-_, _≤_}
 use mathlib.Core.Path.{sym, _∙_}
-use Rattle.table_rows.specs.Meaning.{NoneHolds, none-holds-more, found-here, found-none}
+use Rattle.table_rules.specs.Meaning.{NoneHolds, none-holds-more, found-here, found-none}
 use Rattle.table_rows.proofs.search.scan.Statement.{statement}
 use Rattle.table_rows.proofs.search.scan.Tie as tie
 

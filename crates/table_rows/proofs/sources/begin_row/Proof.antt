@@ -3,11 +3,7 @@ use Prim.Native.Nat.{_+_}
 use mathlib.Core.Path.{_∙_}
 use lib.ListN.{set, length-set}
 use borrow.Author.Needs.{needs}
-use Rattle.table_rows.specs.Sources.{begun}
-use Prim.Native.Nat.{_+_}
-use mathlib.Core.Path.{_∙_}
-use lib.ListN.{set, length-set}
-use borrow.Author.Needs.{needs}
+use Rattle.table_rules.specs.Sources.{begun}
 use Rattle.table_rows.proofs.sources.begin_row.Statement.{statement}
 use Rattle.table_rows.proofs.sources.begin_row.Tie as tie
 use Rattle.table_rows.proofs.sources.lower.Reads as lower-reads

@@ -1,6 +1,5 @@
 use borrow.Author.Needs.{needs}
-use Rattle.table_rows.specs.Sources.{lowered-to}
-use borrow.Author.Needs.{needs}
+use Rattle.table_rules.specs.Sources.{lowered-to}
 use Rattle.table_rows.proofs.sources.lower.Statement.{statement}
 use Rattle.table_rows.proofs.sources.lower.Tie as tie
 

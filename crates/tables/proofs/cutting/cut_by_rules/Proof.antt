@@ -1,5 +1,5 @@
 use Rattle.sheet_bytes.specs.Cuts.{cuts-made}
-use Rattle.tables.specs.Cutting.{cut-by-only}
+use Rattle.table_rules.specs.Cutting.{cut-by-only}
 use borrow.Author.Needs.{needs}
 use Rattle.tables.proofs.cutting.cut_by_rules.Statement.{statement}
 use Rattle.tables.proofs.cutting.cut_by_rules.Tie as tie

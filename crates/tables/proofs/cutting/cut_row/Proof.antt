@@ -1,5 +1,5 @@
 use mathlib.Core.Path.{sym, subst}
-use Rattle.tables.specs.Cutting.{Cuttable, cut-kept, cut-changed}
+use Rattle.table_rules.specs.Cutting.{Cuttable, cut-kept, cut-changed}
 use borrow.Author.Needs.{needs}
 use Rattle.tables.proofs.cutting.cut_row.Statement.{statement}
 use Rattle.tables.proofs.cutting.cut_row.Tie as tie

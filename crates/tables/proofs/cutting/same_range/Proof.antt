@@ -1,7 +1,7 @@
 use mir.Syntax.{w64}
 use mir.Val.{SFits, ofZ}
 use mathlib.Core.Path.{ap}
-use Rattle.tables.specs.Cutting.{range-same-yes, range-low-no, range-high-no, bits-same}
+use Rattle.table_rules.specs.Cutting.{range-same-yes, range-low-no, range-high-no, bits-same}
 use Rattle.tables.proofs.cutting.same_range.Statement.{statement}
 use Rattle.tables.proofs.cutting.same_range.Tie as tie
 

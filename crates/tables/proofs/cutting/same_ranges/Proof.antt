@@ -1,5 +1,5 @@
 use borrow.Author.Tests.{not-true, not-false}
-use Rattle.tables.specs.Cutting.{first-no, second-no, third-tells}
+use Rattle.table_rules.specs.Cutting.{first-no, second-no, third-tells}
 use borrow.Author.Needs.{needs}
 use Rattle.tables.proofs.cutting.same_ranges.Statement.{statement}
 use Rattle.tables.proofs.cutting.same_ranges.Tie as tie

@@ -3,9 +3,9 @@ use Prim.Native.Nat.{_+_, _*_}
 use mathlib.Core.Path.{refl, _∙_}
 use borrow.Author.Tests.{not-true, not-false}
 use lib.ListN.{length-set}
-use Rattle.table_rows.specs.Marks.{raised-nobody}
-use Rattle.table_rows.specs.Sources.{noting}
-use Rattle.tables.specs.Cutting.{settled-same, settled-raised}
+use Rattle.table_rules.specs.Marks.{raised-nobody}
+use Rattle.table_rules.specs.Sources.{noting}
+use Rattle.table_rules.specs.Cutting.{settled-same, settled-raised}
 use borrow.Author.Needs.{needs}
 use Rattle.tables.proofs.cutting.settle.Statement.{statement}
 use Rattle.tables.proofs.cutting.settle.Tie as tie

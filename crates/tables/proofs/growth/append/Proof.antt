@@ -1,9 +1,8 @@
 use native.Mathlib.Omega.{arith}
 use mathlib.Core.Path.{refl}
 use Rattle.sheet_bytes.specs.Three.{configMeant}
-use Rattle.table_rows.specs.Meaning.{covered-few}
-use Rattle.tables.specs.Growth.{cells-new, homes-new}
-use borrow.Author.Needs.{needs}
+use Rattle.table_rules.specs.Meaning.{covered-few}
+use Rattle.table_rules.specs.Growth.{cells-new, homes-new}
 use borrow.Author.Needs.{needs}
 use Rattle.tables.proofs.growth.append.Statement.{statement}
 use Rattle.tables.proofs.growth.append.Tie as tie

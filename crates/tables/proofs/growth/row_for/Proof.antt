@@ -1,5 +1,5 @@
 use mathlib.Core.Path.{refl}
-use Rattle.tables.specs.Growth.{row-there, row-new, row-none, nobody, room-left}
+use Rattle.table_rules.specs.Growth.{row-there, row-new, row-none, nobody, room-left}
 use Rattle.tables.proofs.growth.row_for.Statement.{statement}
 use Rattle.tables.proofs.growth.row_for.Tie as tie
 use Rattle.tables.proofs.growth.append.Reads as append-reads

@@ -1,6 +1,6 @@
 use native.Mathlib.Omega.{arith}
 use lib.ListN.{length-set}
-use Rattle.table_rows.specs.Arrays.{stateIn}
+use Rattle.table_rules.specs.Arrays.{stateIn}
 use Rattle.writing.specs.BoxBytes.{box-stored}
 use borrow.Author.Needs.{needs}
 use Rattle.writing.proofs.boxes.put_box.Statement.{statement}

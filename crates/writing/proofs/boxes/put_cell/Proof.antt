@@ -3,7 +3,7 @@ use Prim.Native.Nat.{_+_, _%_, _/_}
 use mathlib.Core.Path.{ap, _∙_}
 use Rattle.integers.specs.LittleEndian.{split, length-split}
 use Rattle.sheet_bytes.specs.Fields.{not-four}
-use Rattle.sheet_bytes.specs.Shape.{width-few}
+use Rattle.sheet_rules.specs.Shape.{width-few}
 use Rattle.writing.specs.Stored.{stored, stored-behind}
 use Rattle.writing.specs.BoxBytes.{two-bytes, four-bytes, upper-small}
 use borrow.Author.Needs.{needs}

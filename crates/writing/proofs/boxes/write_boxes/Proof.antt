@@ -4,7 +4,7 @@ use mathlib.Core.Path.{_≡_, refl}
 use mathlib.Core.List.{List}
 use lib.ListN.{length}
 use Rattle.systems.specs.Lists.{collect}
-use Rattle.sheet_bytes.specs.Shape.{width-few}
+use Rattle.sheet_rules.specs.Shape.{width-few}
 use Rattle.writing.specs.Numbers.{entryIn}
 use Rattle.writing.specs.Stored.{stored, stored-start, stored-more, rows-le, rows-small}
 use Rattle.writing.specs.BoxBytes.{rowBytes, rows-length, record-small, boxes-stored}

@@ -2,7 +2,7 @@ use native.Mathlib.Omega.{arith}
 use Prim.Native.Nat.{_+_}
 use lib.ListN.{getD, set, length-set}
 use Rattle.sheet_bytes.specs.Fields.{region-within, sheet-short, actions-limit}
-use Rattle.table_rows.specs.Arrays.{regionIn}
+use Rattle.table_rules.specs.Arrays.{regionIn}
 use Rattle.writing.specs.Stored.{stored-two}
 use Rattle.writing.specs.ChartBytes.{record-stored}
 use borrow.Author.Needs.{needs}

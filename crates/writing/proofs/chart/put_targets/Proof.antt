@@ -3,7 +3,7 @@ use Prim.Native.Nat.{ℕ, _+_, _*_, _-_, _≤_}
 use mathlib.Core.Path.{_≡_, refl, ap, _∙_}
 use lib.ListN.{length, set, length-set}
 use Rattle.systems.specs.Lists.{collect, length-each}
-use Rattle.table_rows.specs.Arrays.{targetIn}
+use Rattle.table_rules.specs.Arrays.{targetIn}
 use Rattle.writing.specs.Numbers.{entryIn}
 use Rattle.writing.specs.Stored.{stored, stored-start, stored-one, stored-more}
 use Rattle.writing.specs.ChartBytes.{targetByte, targetBytes}

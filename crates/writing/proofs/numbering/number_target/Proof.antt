@@ -2,7 +2,7 @@ use native.Mathlib.Omega.{arith}
 use mathlib.Core.Path.{_≡_, refl}
 use mathlib.Core.Logic.{inl, inr}
 use Prim.Native.Nat.{_+_, _*_, _<_}
-use Rattle.table_rows.specs.Arrays.{targetIn}
+use Rattle.table_rules.specs.Arrays.{targetIn}
 use Rattle.writing.specs.Numbers.{entryIn, rows-few, actions-few, walked-row, walked-old, walked-room, walked-new}
 use borrow.Author.Needs.{needs}
 use Rattle.writing.proofs.numbering.number_target.Statement.{statement}

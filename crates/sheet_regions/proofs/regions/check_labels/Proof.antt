@@ -1,0 +1,65 @@
+use borrow.Author.Needs.{needs}
+use mathlib.Core.Path.{_≡_}
+use Prim.Native.Nat.{_≤_, _-_}
+use native.Mathlib.Omega.{arith}
+use Rattle.answers.specs.declared.Checked.the-variants.{Fine}
+use Rattle.answers.specs.Stages.{each, each-none, loop-stop, loop-more, loop-end}
+use Rattle.sheet_rules.specs.Layout.{regionsOf}
+use Rattle.sheet_rules.specs.Check.{checkLabel}
+use Rattle.sheet_regions.proofs.regions.check_labels.Statement.{statement}
+use Rattle.sheet_regions.proofs.regions.check_labels.Tie as tie
+
+abbrev Inv-loop : tie.InvT-loop
+Inv-loop s shape regions j₀ j = (j ≤ regions) × (each (checkLabel s) j ≡ Fine)
+
+abbrev μ-loop : tie.MeasureT-loop
+μ-loop s shape regions j₀ j = regions - j
+
+loop-holds : tie.Need-loop-holds Inv-loop μ-loop
+loop-holds c = (omega arith, each-none (checkLabel (c .before .args .s .now)))
+
+check-label-requires : tie.Need-check-label-requires Inv-loop μ-loop
+check-label-requires c κs = (c .before .before .before .pre, c .loop-test .taken)
+
+enum-told : tie.Need-enum-told Inv-loop μ-loop
+enum-told c = search needs
+
+enum-told-2 : tie.Need-enum-told-2 Inv-loop μ-loop
+enum-told-2 c = search needs
+
+returns : tie.Need-returns Inv-loop μ-loop
+returns c =
+    let start = c .before .before .before .before .before .before in
+    loop-stop (checkLabel (start .args .s .now)) (c .before .before .before .before .loop .j) (regionsOf (start .args .s .now)) (c .before .before .before .before .loop .inv .1) (c .before .before .check-label .ensures) (c .enum-told2 .given .1) (omega (arith, c .before .before .before .loop-test .taken, start .pre .regions-are))
+
+add-j : tie.Need-add-j Inv-loop μ-loop
+add-j c = omega (arith, c .before .before .before .before .before .before .pre .shaped .regions-few, c .before .before .before .before .before .before .pre .regions-are)
+
+loop-less : tie.Need-loop-less Inv-loop μ-loop
+loop-less c = omega arith
+
+loop-again : tie.Need-loop-again Inv-loop μ-loop
+loop-again c =
+    let start = c .before .before .before .before .before .before in
+    (omega arith, loop-more (checkLabel (start .args .s .now)) (c .before .before .before .before .loop .j) (c .before .before .before .before .loop .inv .1) (c .before .before .check-label .ensures) (c .enum-told .given .1))
+
+returns-2 : tie.Need-returns-2 Inv-loop μ-loop
+returns-2 c =
+    let start = c .before .before .before in
+    loop-end (checkLabel (start .args .s .now)) (c .before .loop .j) (regionsOf (start .args .s .now)) (c .before .loop .inv .1) (omega (arith, start .pre .regions-are)) (omega (arith, start .pre .regions-are))
+
+pub check-labels-spec : {M : Type 1} → statement M
+check-labels-spec =
+    tie.close
+    (tie.spec
+    Inv-loop
+    μ-loop
+    loop-holds
+    check-label-requires
+    enum-told
+    enum-told-2
+    returns
+    add-j
+    loop-less
+    loop-again
+    returns-2)

@@ -1,6 +1,0 @@
-pub mod Arrays
-pub mod Marks
-pub mod Depths
-pub mod Sources
-pub mod Meaning
-pub mod Padding
