@@ -500,30 +500,58 @@ fn kinds() -> Vec<String> {
     all
 }
 
+/// Sheets: what each gives, and runs on them and on their charts.
+fn test_sheets(test: &mut Test, count: usize) {
+    wrapper::test();
+    [1, 2].iter().for_each(|version| named(test, *version));
+    known::test(test);
+    refused_labels(test, count / 20);
+    versions::test(test, count / 20);
+    random_sheets(test, 1, count);
+    random_sheets(test, 2, count / 2);
+    grids(test, count / 40);
+}
+
+/// Charts of every kind, hard sheets, and what else is asked of charts, rules, counters and logs.
+fn test_charts(test: &mut Test, count: usize) {
+    random_charts(test, count);
+    depth::test(test, count);
+    hard_sheets(test, count / 60);
+    way::test(test);
+    part::test(test, count);
+    set_point::test(test, count);
+    go_round::test(test, count);
+    logs::test(test, count);
+}
+
+/// Both halves at once, each with random numbers of its own: how often each kind of answer came.
+fn test_both(count: usize, seed: u64) -> BTreeMap<String, usize> {
+    let halves: [fn(&mut Test, usize); 2] = [test_sheets, test_charts];
+    let begin = |(half, seed): (fn(&mut Test, usize), u64)| {
+        std::thread::spawn(move || {
+            let mut test = Test { rng: Random(seed), kinds: BTreeMap::new() };
+            half(&mut test, count);
+            test.kinds
+        })
+    };
+    let begun: Vec<_> = halves.into_iter().zip(seed..).map(begin).collect();
+    let mut all = BTreeMap::new();
+    for half in begun {
+        for (kind, times) in half.join().expect("a half that came to its end") {
+            *all.entry(kind).or_insert(0) += times;
+        }
+    }
+    all
+}
+
 fn main() {
     let numbers: Vec<u64> = std::env::args().skip(1).map(|a| a.parse().expect("a number")).collect();
     let [count, seed] = numbers[..] else { panic!("usage: library COUNT SEED") };
-    let mut test = Test { rng: Random(seed), kinds: BTreeMap::new() };
-    wrapper::test();
-    [1, 2].iter().for_each(|version| named(&mut test, *version));
-    known::test(&mut test);
-    refused_labels(&mut test, count as usize / 20);
-    versions::test(&mut test, count as usize / 20);
-    random_sheets(&mut test, 1, count as usize);
-    random_sheets(&mut test, 2, count as usize / 2);
-    grids(&mut test, count as usize / 40);
-    random_charts(&mut test, count as usize);
-    depth::test(&mut test, count as usize);
-    hard_sheets(&mut test, count as usize / 60);
-    way::test(&mut test);
-    part::test(&mut test, count as usize);
-    set_point::test(&mut test, count as usize);
-    go_round::test(&mut test, count as usize);
-    logs::test(&mut test, count as usize);
-    for (kind, times) in &test.kinds {
+    let came = test_both(count as usize, seed);
+    for (kind, times) in &came {
         println!("{times:8} {kind}");
     }
-    let missing: Vec<String> = kinds().into_iter().filter(|k| !test.kinds.contains_key(k)).collect();
+    let missing: Vec<String> = kinds().into_iter().filter(|k| !came.contains_key(k)).collect();
     if !missing.is_empty() {
         println!("never came: {}", missing.join("; "));
         exit(1);

@@ -9,9 +9,9 @@ use lib.Dec.{leb, ltb}
 use lib.ListN.{length}
 use Rattle.systems.specs.System.{Below}
 use Rattle.systems.specs.Words.{ended, shorterLists, firstThat, Sooner}
-use Rattle.answers.specs.declared.Checked.{Checked}
-use Rattle.answers.specs.declared.Checked.the-variants.{Fine, Refused}
-use Rattle.answers.specs.Stages.{andThen, demand}
+use Rattle.answer_rules.specs.declared.Checked.{Checked}
+use Rattle.answer_rules.specs.declared.Checked.the-variants.{Fine, Refused}
+use Rattle.answer_rules.specs.Stages.{andThen, demand}
 use Rattle.model.specs.Sheet.{Configuration, Sheet, inBox, sheetSystem, sheetReading}
 use Rattle.model.specs.Blocks.{classOf, blocks, blockAt, tooMany}
 use Rattle.model.specs.Theorems.{InBlock}

@@ -14,12 +14,12 @@ use Rattle.systems.specs.Laws.{is-false, true-is, not-tells}
 use Rattle.systems.specs.System.{Below, reading}
 use Rattle.systems.specs.Alike.{reading-length}
 use Rattle.systems.specs.Dictionary.{sequence-listed}
-use Rattle.answers.specs.declared.Checked.{Checked}
-use Rattle.answers.specs.declared.Checked.the-variants.{Fine, Refused}
-use Rattle.answers.specs.declared.FirstBarred.the-variants.{Nothing}
-use Rattle.answers.specs.declared.Ran.{Ran}
-use Rattle.answers.specs.Stages.{demand, each, passed, refused, then-fine, demand-fine, demand-passed, demand-failed, each-all}
-use Rattle.answers.specs.Run.{runChecks, firstOf, ranBy, overwrite}
+use Rattle.answer_rules.specs.declared.Checked.{Checked}
+use Rattle.answer_rules.specs.declared.Checked.the-variants.{Fine, Refused}
+use Rattle.answer_rules.specs.declared.FirstBarred.the-variants.{Nothing}
+use Rattle.answer_rules.specs.declared.Ran.{Ran}
+use Rattle.answer_rules.specs.Stages.{demand, each, passed, refused, then-fine, demand-fine, demand-passed, demand-failed, each-all}
+use Rattle.answer_rules.specs.Run.{runChecks, firstOf, ranBy, overwrite}
 use Rattle.model.specs.Sheet.{Box, inBox, sheetSystem, sheetReading}
 use Rattle.model.specs.Blocks.{blocks, tooMany}
 use Rattle.sheet_rules.specs.Layout.{actionsOf}

@@ -10,11 +10,11 @@ use lib.ListN.{length, getD, take, replicate, length-replicate}
 use lib.Seq.{getD-take}
 use borrow.Author.Tests.{ltb-true, leb-true, le-ltb}
 use Rattle.integers.specs.LittleEndian.{Bytes}
-use Rattle.systems.specs.FirstWords.{NumberedAsNamed, Along}
-use Rattle.answers.specs.declared.Checked.{Checked}
-use Rattle.answers.specs.declared.Checked.the-variants.{Fine, Refused}
-use Rattle.answers.specs.Stages.{demand, passed, refused, then-fine, demand-fine, demand-passed, demand-failed}
-use Rattle.answers.specs.Run.{overwrite}
+use Rattle.exploration.specs.FirstWords.{NumberedAsNamed, Along}
+use Rattle.answer_rules.specs.declared.Checked.{Checked}
+use Rattle.answer_rules.specs.declared.Checked.the-variants.{Fine, Refused}
+use Rattle.answer_rules.specs.Stages.{demand, passed, refused, then-fine, demand-fine, demand-passed, demand-failed}
+use Rattle.answer_rules.specs.Run.{overwrite}
 use Rattle.model.specs.Sheet.{WellFormed}
 use Rattle.model.specs.Blocks.{blocks, tooMany, chartOf}
 use Rattle.model.specs.Chart.{actionsOf, blocksOf, recordAt, chartSystem}

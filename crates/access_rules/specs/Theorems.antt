@@ -9,9 +9,9 @@ use lib.ListN.{length}
 use borrow.Author.Tests.{le-ltb}
 use Rattle.systems.specs.System.{reading}
 use Rattle.systems.specs.Dictionary.{sequence-found}
-use Rattle.systems.specs.FirstWords.{Along, along-some}
-use Rattle.answers.specs.declared.Checked.the-variants.{Refused}
-use Rattle.answers.specs.Stages.{refused, demand-failed}
+use Rattle.exploration.specs.FirstWords.{Along, along-some}
+use Rattle.answer_rules.specs.declared.Checked.the-variants.{Refused}
+use Rattle.answer_rules.specs.Stages.{refused, demand-failed}
 use Rattle.model.specs.Sheet.{Sheet, sheetReading, WellFormed}
 use Rattle.model.specs.Blocks.{blocks, chartOf}
 use Rattle.model.specs.Chart.{chartSystem}

@@ -3,7 +3,7 @@
 ghost use mathlib.Core.Path.{_≡_};
 ghost use Prim.Native.Nat.{_≤_};
 ghost use lib.ListN.{length};
-ghost use Rattle.systems.specs.FirstWords.{NumberedAsNamed};
+ghost use Rattle.exploration.specs.FirstWords.{NumberedAsNamed};
 ghost use Rattle.model.specs.Chart.{blocksOf, recordAt, chartSystem};
 ghost use Rattle.sheet_rules.specs.Decode.{decode};
 ghost use Rattle.chart_bytes.specs.Shape.{Shaped, Counted};

@@ -2,8 +2,8 @@
 ghost use mathlib.Core.Path.{_≡_};
 ghost use lib.Dec.{ltb};
 ghost use lib.ListN.{length, getD};
-ghost use Rattle.answers.specs.Stages.{demand, each};
-ghost use Rattle.answers.specs.Run.{runChecks};
+ghost use Rattle.answer_rules.specs.Stages.{demand, each};
+ghost use Rattle.answer_rules.specs.Run.{runChecks};
 use crate::Checked;
 
 // 11: the first action not below the number of actions.

@@ -5,19 +5,19 @@ use Prim.Native.Nat.{ℕ}
 use lib.Dec.{eqb}
 use lib.IntN.{ℤ}
 use borrow.Author.Tests.{eq-eqb, ne-eqb}
-use Rattle.answers.specs.declared.Checked.{Checked}
-use Rattle.answers.specs.declared.Checked.the-variants.{Fine, Refused}
-use Rattle.answers.specs.declared.FirstBarred.{FirstBarred}
-use Rattle.answers.specs.declared.FirstBarred.the-variants.{Nothing, At}
-use Rattle.answers.specs.declared.Ran.{Ran}
+use Rattle.answer_rules.specs.declared.Checked.{Checked}
+use Rattle.answer_rules.specs.declared.Checked.the-variants.{Fine, Refused}
+use Rattle.answer_rules.specs.declared.FirstBarred.{FirstBarred}
+use Rattle.answer_rules.specs.declared.FirstBarred.the-variants.{Nothing, At}
+use Rattle.answer_rules.specs.declared.Ran.{Ran}
 use Rattle.chart.specs.declared.Settled.{Settled}
 use Rattle.making_rules.specs.declared.Made.{Made}
 use Rattle.access_rules.specs.declared.Access.{Access}
 use Rattle.model.specs.declared.Rule.{Rule}
 use Rattle.model.specs.declared.Rule.the-variants.{Set, Carry}
 use Rattle.separation_rules.specs.declared.Separation.{Separation}
-use Rattle.set_point.specs.declared.SetPoint.{SetPoint}
-use Rattle.congruence.specs.declared.Solved.{Solved}
+use Rattle.set_point_rules.specs.declared.SetPoint.{SetPoint}
+use Rattle.congruence_rules.specs.declared.Solved.{Solved}
 
 -- a check: 0 and 0 where it passed
 unfoldable pub checkNumber : Checked → ℕ

@@ -11,8 +11,8 @@ use lib.ListN.{length, getD, take}
 use lib.Seq.{ext-getD, getD-take, length-take-le}
 use borrow.Author.Tests.{eqb-true, eq-eqb}
 use Rattle.systems.specs.Laws.{eqb-tells, true-is, is-true, all-true}
-use Rattle.answers.specs.declared.Checked.the-variants.{Fine}
-use Rattle.answers.specs.Stages.{andThen, each, passed, then-fine, demand-fine, each-fine, each-all}
+use Rattle.answer_rules.specs.declared.Checked.the-variants.{Fine}
+use Rattle.answer_rules.specs.Stages.{andThen, each, passed, then-fine, demand-fine, each-fine, each-all}
 use Rattle.model.specs.Blocks.{chartMark}
 use Rattle.model.specs.Chart.{blocksOf, recordAt, labelOf, roundClass, ToldApart, ChartRules}
 use Rattle.model.specs.Rounds.{TargetsRight, class-own, rounds-told}

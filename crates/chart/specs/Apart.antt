@@ -5,9 +5,9 @@ use Prim.Native.Nat.{ℕ}
 use lib.Dec.{eqb}
 use borrow.Author.Tests.{eq-eqb, ne-eqb}
 use Rattle.systems.specs.Laws.{run-ext}
-use Rattle.answers.specs.declared.Checked.the-variants.{Fine, Refused}
-use Rattle.answers.specs.Stages.{andThen, demand, each}
-use Rattle.answers.specs.Loops.{demand-yes, demand-no}
+use Rattle.answer_rules.specs.declared.Checked.the-variants.{Fine, Refused}
+use Rattle.answer_rules.specs.Stages.{andThen, demand, each}
+use Rattle.answer_rules.specs.Loops.{demand-yes, demand-no}
 use Rattle.model.specs.Chart.{blocksOf, recordAt, roundClass}
 use Rattle.chart_bytes.specs.Classes.{entry, Holds}
 use Rattle.chart.specs.Check.{classCheck, classesCheck}

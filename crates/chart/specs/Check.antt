@@ -2,8 +2,8 @@
 use mathlib.Core.List.{List}
 use Prim.Native.Nat.{ℕ}
 use lib.Dec.{eqb}
-use Rattle.answers.specs.declared.Checked.{Checked}
-use Rattle.answers.specs.Stages.{andThen, demand, each}
+use Rattle.answer_rules.specs.declared.Checked.{Checked}
+use Rattle.answer_rules.specs.Stages.{andThen, demand, each}
 use Rattle.model.specs.Chart.{blocksOf, recordAt, roundClass}
 use Rattle.chart_bytes.specs.Header.{headerCheck}
 use Rattle.chart_form.specs.Form.{limitsCheck, numbersCheck, barsCheck}

@@ -4,10 +4,10 @@ use mathlib.Core.List.{List}
 use Prim.Native.Nat.{ℕ, _≤_}
 use lib.ListN.{length}
 use Rattle.systems.specs.System.{System, Reading, reading, Alike}
-use Rattle.answers.specs.declared.Checked.{Checked}
-use Rattle.answers.specs.declared.Checked.the-variants.{Fine}
-use Rattle.answers.specs.Stages.{andThen}
-use Rattle.answers.specs.Run.{runChecks, ranBy, leftBy}
+use Rattle.answer_rules.specs.declared.Checked.{Checked}
+use Rattle.answer_rules.specs.declared.Checked.the-variants.{Fine}
+use Rattle.answer_rules.specs.Stages.{andThen}
+use Rattle.answer_rules.specs.Run.{runChecks, ranBy, leftBy}
 use Rattle.model.specs.Sheet.{Sheet, sheetReading, WellFormed}
 use Rattle.model.specs.Blocks.{blocks, chartOf}
 use Rattle.model.specs.Chart.{actionsOf, chartSystem, chartReading}

@@ -3,12 +3,12 @@ use mathlib.Core.Path.{_≡_}
 use mathlib.Core.List.{List}
 use Prim.Native.Nat.{ℕ}
 use lib.ListN.{length}
-use Rattle.answers.specs.declared.Checked.the-variants.{Fine, Refused}
-use Rattle.answers.specs.declared.Ran.{Ran}
-use Rattle.answers.specs.Stages.{then-fine}
-use Rattle.answers.specs.Run.{runChecks, ranBy, leftBy}
-use Rattle.answers.specs.Walk.{run-done, run-refused}
-use Rattle.answers.specs.Sequence.{Runs, sequence-passed}
+use Rattle.answer_rules.specs.declared.Checked.the-variants.{Fine, Refused}
+use Rattle.answer_rules.specs.declared.Ran.{Ran}
+use Rattle.answer_rules.specs.Stages.{then-fine}
+use Rattle.answer_rules.specs.Run.{runChecks, ranBy, leftBy}
+use Rattle.answer_rules.specs.Walk.{run-done, run-refused}
+use Rattle.answer_rules.specs.Sequence.{Runs, sequence-passed}
 use Rattle.model.specs.Chart.{actionsOf, chartReading}
 use Rattle.chart.specs.Check.{chartCheck}
 use Rattle.chart.specs.RunChart.{chartRunCheck, chartRan, chartLeft}

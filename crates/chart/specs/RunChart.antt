@@ -2,10 +2,10 @@
 use mathlib.Core.List.{List}
 use Prim.Native.Nat.{ℕ}
 use lib.ListN.{length}
-use Rattle.answers.specs.declared.Checked.{Checked}
-use Rattle.answers.specs.declared.Ran.{Ran}
-use Rattle.answers.specs.Stages.{andThen}
-use Rattle.answers.specs.Run.{runChecks, ranBy, leftBy}
+use Rattle.answer_rules.specs.declared.Checked.{Checked}
+use Rattle.answer_rules.specs.declared.Ran.{Ran}
+use Rattle.answer_rules.specs.Stages.{andThen}
+use Rattle.answer_rules.specs.Run.{runChecks, ranBy, leftBy}
 use Rattle.model.specs.Chart.{actionsOf, chartReading}
 use Rattle.chart.specs.Check.{chartCheck}
 

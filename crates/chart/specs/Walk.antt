@@ -3,12 +3,12 @@ use mathlib.Core.Path.{_≡_, sym, subst}
 use mathlib.Core.List.{List}
 use Prim.Native.Nat.{ℕ, _+_, _<_}
 use lib.ListN.{length, getD, set}
-use Rattle.answers.specs.declared.Checked.the-variants.{Fine}
-use Rattle.answers.specs.declared.FirstBarred.{FirstBarred}
-use Rattle.answers.specs.declared.FirstBarred.the-variants.{Nothing}
-use Rattle.answers.specs.declared.Ran.the-variants.{Done}
-use Rattle.answers.specs.Run.{notedAt, ranBy, leftBy}
-use Rattle.answers.specs.Walk as Any
+use Rattle.answer_rules.specs.declared.Checked.the-variants.{Fine}
+use Rattle.answer_rules.specs.declared.FirstBarred.{FirstBarred}
+use Rattle.answer_rules.specs.declared.FirstBarred.the-variants.{Nothing}
+use Rattle.answer_rules.specs.declared.Ran.the-variants.{Done}
+use Rattle.answer_rules.specs.Run.{notedAt, ranBy, leftBy}
+use Rattle.answer_rules.specs.Walk as Any
 use Rattle.model.specs.Chart.{blocksOf, labelOf, chartSystem, chartReading}
 use Rattle.chart_bytes.specs.declared.acting.Acted.{Acted}
 use Rattle.chart_bytes.specs.Acting.{Acts}

@@ -1,7 +1,7 @@
 // The depth, and refusal 14: blocks that no sequence tells apart, by the classes after all rounds of refinement.
 ghost use mathlib.Core.Path.{_≡_};
 ghost use lib.ListN.{length};
-ghost use Rattle.answers.specs.Stages.{each};
+ghost use Rattle.answer_rules.specs.Stages.{each};
 ghost use Rattle.model.specs.Chart.{blocksOf};
 ghost use Rattle.model.specs.ChartDepth.{depthOf};
 ghost use Rattle.model.specs.Rounds.{TargetsRight};
@@ -13,7 +13,7 @@ use crate::Settled;
 use answers::Checked;
 use chart_bytes::fields::blocks_of;
 use chart_bytes::fields::record_at;
-use chart_bytes::rounds::refine_all;
+use chart_rounds::refine_all;
 
 // The first block whose class has an earlier block.
 fn check_table(c: &[u8], f: &[u8]) -> Checked

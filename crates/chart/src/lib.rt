@@ -2,7 +2,7 @@
 // Public: no function asks anything of its caller, and each contract gives the answer as a definition does.
 ghost use mathlib.Core.Path.{_≡_};
 ghost use lib.ListN.{length};
-ghost use Rattle.answers.specs.declared.Checked.the-variants.{Fine};
+ghost use Rattle.answer_rules.specs.declared.Checked.the-variants.{Fine};
 ghost use Rattle.chart_bytes.specs.Classes.{Holds};
 ghost use Rattle.chart.specs.Check.{formCheck, chartCheck};
 ghost use Rattle.chart.specs.Depth.{chartDepth};
@@ -12,10 +12,10 @@ use answers::Ran;
 use answers::sequence::check_sequence;
 use chart_bytes::fields::actions_of;
 use chart_bytes::header::check_header;
-use chart_bytes::rounds::by_labels;
 use chart_form::bars::check_bars;
 use chart_form::limits::check_limits;
 use chart_form::numbering::check_numbers;
+use chart_rounds::by_labels;
 
 mod classes;
 mod walk;

@@ -2,8 +2,8 @@
 ghost use mathlib.Core.Path.{_≡_};
 ghost use Prim.Native.Nat.{ℕ, _+_, _≤_, _<_};
 ghost use lib.ListN.{length, getD};
-ghost use Rattle.answers.specs.declared.Checked.the-variants.{Fine};
-ghost use Rattle.answers.specs.Run.{ranBy, leftBy};
+ghost use Rattle.answer_rules.specs.declared.Checked.the-variants.{Fine};
+ghost use Rattle.answer_rules.specs.Run.{ranBy, leftBy};
 ghost use Rattle.model.specs.Chart.{actionsOf, chartReading};
 ghost use Rattle.model.specs.Rounds.{TargetsRight};
 ghost use Rattle.chart_bytes.specs.Shape.{Shaped};

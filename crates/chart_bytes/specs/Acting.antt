@@ -5,7 +5,7 @@ use mathlib.Core.Bool.{true, false}
 use mathlib.Core.List.{List}
 use Prim.Native.Nat.{ℕ, _<_}
 use native.Mathlib.Omega.{arith}
-use Rattle.answers.specs.Walk as Any
+use Rattle.answer_rules.specs.Walk as Any
 use Rattle.model.specs.Chart.{actionsOf, blocksOf, labelOf, targetOf, blockNamed, chartStep, chartSystem}
 use Rattle.model.specs.Rounds.{TargetsRight, chartStep-in, named-block, named-barred}
 use Rattle.chart_bytes.specs.declared.acting.Acted.{Acted}

@@ -13,7 +13,7 @@ use lib.Seq.{getD-set-same, getD-set-other}
 use borrow.Author.Tests.{eq-eqb, ne-eqb}
 use Rattle.systems.specs.Search.{run, all, least}
 use Rattle.systems.specs.Laws.{true-is, not-true, least-is, least-le, least-ext, run-ext, below-next}
-use Rattle.answers.specs.Loops.{and-both, and-first, and-second, all-stop, all-ended}
+use Rattle.answer_rules.specs.Loops.{and-both, and-first, and-second, all-stop, all-ended}
 use Rattle.model.specs.Chart.{actionsOf, blocksOf, labelOf, targetOf, sameTarget, refines, roundClass}
 use Rattle.model.specs.ChartDepth.{depthOf}
 use Rattle.model.specs.Rounds.{TargetsRight, Quiet, Parted, changed-parted, quiet-from}

@@ -5,8 +5,8 @@ use Prim.Native.Nat.{ℕ, _+_}
 use lib.Dec.{eqb, leb}
 use lib.ListN.{length, getD}
 use Rattle.systems.specs.Search.{all}
-use Rattle.answers.specs.declared.Checked.{Checked}
-use Rattle.answers.specs.Stages.{andThen, demand}
+use Rattle.answer_rules.specs.declared.Checked.{Checked}
+use Rattle.answer_rules.specs.Stages.{andThen, demand}
 use Rattle.model.specs.Blocks.{chartMark}
 use Rattle.model.specs.Chart.{actionsOf, blocksOf, recordAt}
 

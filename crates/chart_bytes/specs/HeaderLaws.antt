@@ -9,9 +9,9 @@ use lib.Dec.{eqb, leb}
 use lib.ListN.{length, getD}
 use borrow.Author.Tests.{le-leb, lt-leb, leb-true, eqb-true, eq-eqb, ne-eqb}
 use Rattle.systems.specs.Search.{run}
-use Rattle.answers.specs.declared.Checked.the-variants.{Fine, Refused}
-use Rattle.answers.specs.Stages.{andThen, demand, passed, refused, then-fine, demand-fine}
-use Rattle.answers.specs.Loops.{demand-yes, demand-no, and-both, and-first, and-second, all-stop}
+use Rattle.answer_rules.specs.declared.Checked.the-variants.{Fine, Refused}
+use Rattle.answer_rules.specs.Stages.{andThen, demand, passed, refused, then-fine, demand-fine}
+use Rattle.answer_rules.specs.Loops.{demand-yes, demand-no, and-both, and-first, and-second, all-stop}
 use Rattle.model.specs.Blocks.{chartMark}
 use Rattle.model.specs.Chart.{actionsOf, blocksOf, recordAt}
 use Rattle.chart_bytes.specs.Header.{marked, markCheck, countCheck, lengthCheck, headerCheck}

@@ -9,7 +9,7 @@ use native.Mathlib.Nat.{le-refl}
 use native.Mathlib.Decide.{decLt, le-ind, ℕ-discrete}
 use native.Mathlib.Omega.{arith}
 use borrow.Author.Tests.{eq-eqb, ne-eqb}
-use Rattle.systems.specs.FirstWords.{Earlier, NumberedAsNamed}
+use Rattle.exploration.specs.FirstWords.{Earlier, NumberedAsNamed}
 use Rattle.model.specs.Chart.{actionsOf, blocksOf, targetOf, chartStep, chartSystem, nextAfter, nextIn, nextUnnamed, ChartRules}
 use Rattle.model.specs.Rounds.{step-target, target-step, chart-closed}
 

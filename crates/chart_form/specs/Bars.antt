@@ -10,9 +10,9 @@ use native.Mathlib.Omega.{arith}
 use lib.Dec.{eqb}
 use borrow.Author.Tests.{eq-eqb}
 use Rattle.systems.specs.Laws.{told, eqb-tells, least-le, least-lt, least-least}
-use Rattle.answers.specs.declared.Checked.{Checked}
-use Rattle.answers.specs.declared.Checked.the-variants.{Fine}
-use Rattle.answers.specs.Stages.{demand, each, demand-fine, each-first, each-fine, each-all, each-agree}
+use Rattle.answer_rules.specs.declared.Checked.{Checked}
+use Rattle.answer_rules.specs.declared.Checked.the-variants.{Fine}
+use Rattle.answer_rules.specs.Stages.{demand, each, demand-fine, each-first, each-fine, each-all, each-agree}
 use Rattle.model.specs.Chart.{blocksOf, recordAt, labelOf, roundClass}
 use Rattle.chart_form.specs.Form.{sameBars, barCheck, barsCheck}
 use Rattle.chart_form.specs.Records.{pair-apart, pair-alike, pair-wrong}

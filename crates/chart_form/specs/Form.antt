@@ -4,8 +4,8 @@ use mathlib.Core.List.{List}
 use Prim.Native.Nat.{ℕ}
 use lib.Dec.{eqb, ltb, leb}
 use Rattle.systems.specs.Search.{all}
-use Rattle.answers.specs.declared.Checked.{Checked}
-use Rattle.answers.specs.Stages.{andThen, demand, each}
+use Rattle.answer_rules.specs.declared.Checked.{Checked}
+use Rattle.answer_rules.specs.Stages.{andThen, demand, each}
 use Rattle.model.specs.Chart.{actionsOf, blocksOf, recordAt, labelOf, targetOf, nextIn, nextUnnamed}
 use Rattle.chart_bytes.specs.Header.{targetAt}
 

@@ -10,10 +10,10 @@ use lib.Dec.{eqb, ltb, leb}
 use borrow.Author.Tests.{ltb-true, leb-true, eqb-true, lt-ltb, le-leb, eq-eqb, ne-eqb}
 use Rattle.systems.specs.Search.{all}
 use Rattle.systems.specs.Laws.{true-is, is-true, all-true}
-use Rattle.answers.specs.declared.Checked.{Checked}
-use Rattle.answers.specs.declared.Checked.the-variants.{Fine}
-use Rattle.answers.specs.Stages.{demand, each, passed, then-fine, demand-fine, each-fine, each-all}
-use Rattle.answers.specs.Loops.{demand-yes, or-first, or-second}
+use Rattle.answer_rules.specs.declared.Checked.{Checked}
+use Rattle.answer_rules.specs.declared.Checked.the-variants.{Fine}
+use Rattle.answer_rules.specs.Stages.{demand, each, passed, then-fine, demand-fine, each-fine, each-all}
+use Rattle.answer_rules.specs.Loops.{demand-yes, or-first, or-second}
 use Rattle.model.specs.Chart.{actionsOf, blocksOf, recordAt, labelOf, targetOf, nextIn, nextUnnamed}
 use Rattle.model.specs.Rounds.{TargetsRight}
 use Rattle.chart_bytes.specs.Header.{targetAt}

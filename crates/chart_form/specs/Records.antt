@@ -7,8 +7,8 @@ use native.Mathlib.Omega.{arith}
 use native.Mathlib.Numerals.{add-one}
 use lib.Dec.{eqb, ltb, leb}
 use borrow.Author.Tests.{lt-ltb, le-ltb, le-leb, lt-leb, eq-eqb, ne-eqb}
-use Rattle.answers.specs.declared.Checked.the-variants.{Fine, Refused}
-use Rattle.answers.specs.Loops.{demand-yes, demand-no, or-first, or-second, or-neither}
+use Rattle.answer_rules.specs.declared.Checked.the-variants.{Fine, Refused}
+use Rattle.answer_rules.specs.Loops.{demand-yes, demand-no, or-first, or-second, or-neither}
 use Rattle.model.specs.Chart.{actionsOf, blocksOf, recordAt, labelOf, targetOf, nextAfter, nextIn, nextUnnamed}
 use Rattle.chart_bytes.specs.Header.{targetAt}
 use Rattle.chart_form.specs.Form.{targetCheck, recordCheck, orderCheck, sameBar, sameBars, barCheck}

@@ -1,7 +1,7 @@
 // The values that the fields of a chart may have: refusal 4.
 ghost use mathlib.Core.Path.{_≡_};
 ghost use Prim.Native.Nat.{_<_};
-ghost use Rattle.answers.specs.Stages.{each};
+ghost use Rattle.answer_rules.specs.Stages.{each};
 ghost use Rattle.model.specs.Chart.{actionsOf, blocksOf};
 ghost use Rattle.chart_bytes.specs.Shape.{Shaped};
 ghost use Rattle.chart_form.specs.Form.{targetCheck, fieldsCheck, limitsCheck};

@@ -1,7 +1,7 @@
 // Refusal 12: blocks that are not numbered as first named.
 ghost use mathlib.Core.Path.{_≡_};
 ghost use Prim.Native.Nat.{_≤_, _<_};
-ghost use Rattle.answers.specs.Stages.{each};
+ghost use Rattle.answer_rules.specs.Stages.{each};
 ghost use Rattle.model.specs.Chart.{actionsOf, blocksOf, nextAfter, nextIn};
 ghost use Rattle.chart_bytes.specs.Shape.{Shaped};
 ghost use Rattle.chart_form.specs.Form.{recordCheck, orderCheck, numberCheck, numbersCheck};

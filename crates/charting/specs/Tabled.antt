@@ -7,8 +7,8 @@ use native.Mathlib.Omega.{arith}
 use lib.ListN.{length}
 use lib.IntN.{ℤ}
 use Rattle.integers.specs.LittleEndian.{Bytes}
-use Rattle.answers.specs.declared.Checked.the-variants.{Fine}
-use Rattle.answers.specs.Stages.{demand, passed, demand-passed}
+use Rattle.answer_rules.specs.declared.Checked.the-variants.{Fine}
+use Rattle.answer_rules.specs.Stages.{demand, passed, demand-passed}
 use Rattle.model.specs.Blocks.{blocks, tooMany}
 use Rattle.refinement.specs.Completed.{completed-blocks, completed-few}
 use Rattle.sheet_bytes.specs.declared.Shape.{Shape}

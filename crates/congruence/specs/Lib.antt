@@ -1,9 +1,2 @@
-pub mod Congruence
-pub mod Modular
-pub mod Euclid
-pub mod Divisor
-pub mod Greedy
-pub mod Theorems
-pub mod Answered
 pub mod Tails
 pub mod Machine

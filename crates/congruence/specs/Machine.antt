@@ -12,15 +12,15 @@ use lib.Seq.{drop-cons, ext-getD, getD-set-same, getD-set-other, getD-drop, drop
 use borrow.Author.Tests.{not-true, not-false}
 use Rattle.systems.specs.Laws.{is-true, is-false, true-is, same-test, below-next}
 use Rattle.congruence.specs.declared.Bezout.{Bezout}
-use Rattle.congruence.specs.declared.Solved.{Solved}
-use Rattle.congruence.specs.declared.Solved.the-variants.{Done, None, Refused}
-use Rattle.congruence.specs.Congruence.{allBelow, allowed, divisor, eight, told, given, goRound, countsLeft, Asked}
-use Rattle.congruence.specs.Euclid.{IsBezout}
-use Rattle.congruence.specs.Divisor.{divisor-has, divisor-some}
-use Rattle.congruence.specs.Greedy.{leastCount, remaining, greedy}
+use Rattle.congruence_rules.specs.declared.Solved.{Solved}
+use Rattle.congruence_rules.specs.declared.Solved.the-variants.{Done, None, Refused}
+use Rattle.congruence_rules.specs.Congruence.{allBelow, allowed, divisor, eight, told, given, goRound, countsLeft, Asked}
+use Rattle.congruence_rules.specs.Euclid.{IsBezout}
+use Rattle.congruence_rules.specs.Divisor.{divisor-has, divisor-some}
+use Rattle.congruence_rules.specs.Greedy.{leastCount, remaining, greedy}
 use Rattle.congruence.specs.Tails.{tailAt, Tails}
-use Rattle.congruence.specs.Theorems.{difference, left-divided, found-divided, found-none}
-use Rattle.congruence.specs.Answered.{allowed-asked, below-each, asked-answered, asked-counts, unasked-refused, zeros-at, eight-at, eight-long}
+use Rattle.congruence_rules.specs.Theorems.{difference, left-divided, found-divided, found-none}
+use Rattle.congruence_rules.specs.Answered.{allowed-asked, below-each, asked-answered, asked-counts, unasked-refused, zeros-at, eight-at, eight-long}
 
 -- a number that is not below m stops the test; where all were passed, all are below
 pub below-stopped : (m : ℕ) (xs : List ℕ) (i : ℕ) → i < length xs → m ≤ getD xs i 0 → false ≡ allBelow m xs

@@ -8,9 +8,9 @@ use native.Mathlib.Nat.{le-of-dvd, dvd-refl}
 use lib.ListN.{length, getD, drop, replicate, set, length-set, drop-of-length-le, getD-replicate}
 use lib.Seq.{drop-cons, getD-set-same, getD-set-other}
 use Rattle.congruence.specs.declared.Bezout.{Bezout}
-use Rattle.congruence.specs.Congruence.{divisor}
-use Rattle.congruence.specs.Euclid.{IsBezout}
-use Rattle.congruence.specs.Divisor.{divisor-has, divisor-some, divisor-most, divisor-none, divisor-is, divisor-more}
+use Rattle.congruence_rules.specs.Congruence.{divisor}
+use Rattle.congruence_rules.specs.Euclid.{IsBezout}
+use Rattle.congruence_rules.specs.Divisor.{divisor-has, divisor-some, divisor-most, divisor-none, divisor-is, divisor-more}
 
 abbrev pub tailAt : List Bezout → ℕ → Bezout
 tailAt ts j = getD ts j (record { divisor = 0; factor = 0 })

@@ -3,17 +3,11 @@
 ghost use mathlib.Core.Path.{_≡_};
 ghost use Prim.Native.Nat.{ℕ, _+_, _-_, _%_, _≤_, _<_, _∣_};
 ghost use lib.ListN.{length, getD};
-ghost use Rattle.congruence.specs.Congruence.{allBelow, allowed, divisor, eight, goRound, countsLeft};
-ghost use Rattle.congruence.specs.Euclid.{IsBezout};
-ghost use Rattle.congruence.specs.Greedy.{leastCount, greedy};
+ghost use Rattle.congruence_rules.specs.Congruence.{allBelow, allowed, divisor, eight, goRound, countsLeft};
+ghost use Rattle.congruence_rules.specs.Euclid.{IsBezout};
+ghost use Rattle.congruence_rules.specs.Greedy.{leastCount, greedy};
 ghost use Rattle.congruence.specs.Tails.{Tails};
-
-// What is said of a start and a wanted value: counts are given, or there are none, or the numbers are refused.
-pub enum Solved {
-    Done,
-    None,
-    Refused { number: u8, returned: usize },
-}
+pub use congruence_rules::Solved;
 
 // The greatest common divisor of two numbers, and a factor with which the second is equal to it modulo the first (Bezout's identity).
 struct Bezout {

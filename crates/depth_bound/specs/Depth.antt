@@ -6,7 +6,7 @@ use Prim.Native.Nat.{ℕ, _≤_, _<_, max}
 use lib.ListN.{length}
 use Rattle.integers.specs.Range.{size}
 use Rattle.model.specs.Sheet.{Sheet, Each, regionAt}
-use Rattle.model.specs.DepthBound.{UnitMove, depthBound}
+use Rattle.depth_rules.specs.DepthBound.{UnitMove, depthBound}
 use Rattle.sheet_bytes.specs.declared.Ranges.{Ranges}
 
 -- an answer whether something holds

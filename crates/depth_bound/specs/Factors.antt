@@ -18,8 +18,8 @@ use Rattle.model.specs.declared.Rule.{Rule}
 use Rattle.model.specs.declared.Rule.the-variants.{Set, Carry}
 use Rattle.model.specs.Sheet.{Barred as barred, Open as opened, Region, nowhere, regionAt, Each, each-none, each-more}
 use Rattle.model.specs.Classes.{each-at}
-use Rattle.model.specs.Composition.{great, greatFactor}
-use Rattle.model.specs.DepthBound.{UnitMove, unit-barred, unit-open}
+use Rattle.depth_rules.specs.Composition.{great, greatFactor}
+use Rattle.depth_rules.specs.DepthBound.{UnitMove, unit-barred, unit-open}
 use Rattle.sheet_bytes.specs.declared.Shape.{Shape}
 use Rattle.sheet_bytes.specs.declared.Move.{Move}
 use Rattle.sheet_bytes.specs.declared.Move.the-variants.{Barred, Open}

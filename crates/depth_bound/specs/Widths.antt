@@ -14,7 +14,7 @@ use Rattle.integers.specs.Range.{size, vacant, size-some, size-none, within-siz
 use Rattle.systems.specs.Laws.{told, true-is}
 use Rattle.model.specs.Sheet.{Sheet, Region, nowhere, regionAt, Each, each-none, each-more, RangeFits, WellFormed}
 use Rattle.model.specs.Classes.{each-at}
-use Rattle.model.specs.DepthBound.{Doublings, unit-factors, narrow-ranges, depthBound}
+use Rattle.depth_rules.specs.DepthBound.{Doublings, unit-factors, narrow-ranges, depthBound}
 use Rattle.sheet_bytes.specs.declared.Shape.{Shape}
 use Rattle.sheet_bytes.specs.declared.Ranges.{Ranges}
 use Rattle.sheet_bytes.specs.declared.RegionBox.{RegionBox}

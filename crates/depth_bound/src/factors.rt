@@ -2,8 +2,8 @@
 ghost use mathlib.Core.Path.{_≡_};
 ghost use Prim.Native.Nat.{_<_};
 ghost use Rattle.model.specs.Sheet.{Each};
-ghost use Rattle.model.specs.Composition.{great};
-ghost use Rattle.model.specs.DepthBound.{UnitMove};
+ghost use Rattle.depth_rules.specs.Composition.{great};
+ghost use Rattle.depth_rules.specs.DepthBound.{UnitMove};
 ghost use Rattle.sheet_rules.specs.Decode.{decode};
 ghost use Rattle.sheet_bytes.specs.Three.{Read, rulesMeant, moveMeant};
 ghost use Rattle.depth_bound.specs.Depth.{Tells, UnitRegion, UnitFactors};

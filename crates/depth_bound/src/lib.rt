@@ -4,7 +4,7 @@
 ghost use mathlib.Core.Path.{_≡_};
 ghost use Prim.Native.Nat.{_≤_};
 ghost use Rattle.model.specs.Sheet.{WellFormed};
-ghost use Rattle.model.specs.DepthBound.{Doublings};
+ghost use Rattle.depth_rules.specs.DepthBound.{Doublings};
 ghost use Rattle.sheet_rules.specs.Decode.{decode};
 ghost use Rattle.sheet_bytes.specs.Three.{Read};
 ghost use Rattle.depth_bound.specs.Depth.{exactDepth};

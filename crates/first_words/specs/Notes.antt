@@ -9,7 +9,7 @@ use native.Mathlib.Omega.{arith}
 use lib.ListN.{length, getD, set}
 use lib.Seq.{getD-set-same, getD-set-other}
 use Rattle.systems.specs.System.{System}
-use Rattle.systems.specs.FirstWords.{Earlier, earlier-below, NumberedAsNamed, FirstNaming, Along, along-start, along-naming, naming-next, along-length}
+use Rattle.exploration.specs.FirstWords.{Earlier, earlier-below, NumberedAsNamed, FirstNaming, Along, along-start, along-naming, naming-next, along-length}
 use Rattle.systems.specs.Laws.{below-suc}
 use Rattle.model.specs.Chart.{actionsOf, blocksOf, targetOf, chartSystem}
 use Rattle.model.specs.Rounds.{step-target, target-step}

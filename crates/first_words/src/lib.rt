@@ -3,7 +3,7 @@
 // Internal: serves sister crates; a function may ask what its callers have made sure of.
 ghost use Prim.Native.Nat.{_+_, _<_, _≤_};
 ghost use lib.ListN.{length};
-ghost use Rattle.systems.specs.FirstWords.{NumberedAsNamed};
+ghost use Rattle.exploration.specs.FirstWords.{NumberedAsNamed};
 ghost use Rattle.model.specs.Chart.{blocksOf, chartSystem};
 ghost use Rattle.chart_bytes.specs.Shape.{Shaped};
 ghost use Rattle.first_words.specs.Notes.{NotesRoom, NotedFrom};

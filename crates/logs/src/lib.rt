@@ -3,7 +3,7 @@
 ghost use mathlib.Core.Path.{_≡_};
 ghost use Prim.Native.Nat.{_≤_, min};
 ghost use lib.ListN.{length};
-ghost use Rattle.logs.specs.Compare.{firstDifference, restOf, lent, lentFrom, partOf};
+ghost use Rattle.log_rules.specs.Compare.{firstDifference, restOf, lent, lentFrom, partOf};
 
 // The lesser of two lengths.
 fn lesser(a: usize, b: usize) -> usize

@@ -7,8 +7,8 @@ use Prim.Native.Nat.{ℕ, _+_, _*_, _≤_, _<_}
 use lib.Dec.{T}
 use lib.ListN.{length, getD, take}
 use Rattle.systems.specs.System.{System, Reached, reading, Below}
-use Rattle.systems.specs.Explored.{Many}
-use Rattle.answers.specs.declared.Checked.the-variants.{Fine}
+use Rattle.exploration.specs.Explored.{Many}
+use Rattle.answer_rules.specs.declared.Checked.the-variants.{Fine}
 use Rattle.model.specs.Sheet.{Configuration, inBox, sheetSystem, sheetReading, Covered}
 use Rattle.model.specs.Blocks.{blocks, chartOf, boxListOf}
 use Rattle.model.specs.Chart.{chartSystem}

@@ -6,10 +6,10 @@ use Prim.Native.Nat.{ℕ, _+_, _*_, _≤_}
 use lib.Dec.{leb}
 use lib.ListN.{length}
 use borrow.Author.Tests.{le-leb, leb-true}
-use Rattle.answers.specs.declared.Checked.{Checked}
-use Rattle.answers.specs.declared.Checked.the-variants.{Fine, Refused}
-use Rattle.answers.specs.Stages.{andThen, demand, passed, refused, then-fine, demand-fine, demand-passed, demand-failed}
-use Rattle.answers.specs.Run.{overwrite}
+use Rattle.answer_rules.specs.declared.Checked.{Checked}
+use Rattle.answer_rules.specs.declared.Checked.the-variants.{Fine, Refused}
+use Rattle.answer_rules.specs.Stages.{andThen, demand, passed, refused, then-fine, demand-fine, demand-passed, demand-failed}
+use Rattle.answer_rules.specs.Run.{overwrite}
 use Rattle.model.specs.Sheet.{Sheet}
 use Rattle.model.specs.Blocks.{blocks, tooMany, chartOf, boxListOf}
 use Rattle.sheet_rules.specs.Layout.{boundSize}

@@ -12,11 +12,11 @@ use lib.Seq.{take-at, getD-take, ext-getD}
 use borrow.Author.Tests.{ltb-false, le-ltb, lt-ltb}
 use Rattle.integers.specs.LittleEndian.{Bytes}
 use Rattle.systems.specs.System.{Reading, reading, Below}
-use Rattle.systems.specs.Explored.{Many}
-use Rattle.answers.specs.declared.Checked.{Checked}
-use Rattle.answers.specs.declared.Checked.the-variants.{Fine, Refused}
-use Rattle.answers.specs.Stages.{demand, passed, then-fine, demand-fine, demand-passed}
-use Rattle.answers.specs.Run.{overwrite, runChecks, ranBy, leftBy}
+use Rattle.exploration.specs.Explored.{Many}
+use Rattle.answer_rules.specs.declared.Checked.{Checked}
+use Rattle.answer_rules.specs.declared.Checked.the-variants.{Fine, Refused}
+use Rattle.answer_rules.specs.Stages.{demand, passed, then-fine, demand-fine, demand-passed}
+use Rattle.answer_rules.specs.Run.{overwrite, runChecks, ranBy, leftBy}
 use Rattle.model.specs.Sheet.{Configuration, Box, Region, Sheet, inBox, sheetReading, Each, WellFormed}
 use Rattle.model.specs.Blocks.{classOf, blocks, blockAt, tooMany, chartOf, boxListOf}
 use Rattle.model.specs.Chart.{chartSystem, recordAt}

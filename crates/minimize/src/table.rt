@@ -1,6 +1,6 @@
 // The refinement: representatives with shrinking boxes, until no row can be unstable.
 ghost use Prim.Native.Nat.{_≤_};
-ghost use Rattle.model.specs.DepthBound.{Doublings};
+ghost use Rattle.depth_rules.specs.DepthBound.{Doublings};
 ghost use Rattle.sheet_rules.specs.Decode.{decode};
 ghost use Rattle.table_rules.specs.Arrays.{CellsRoom, HomesRoom, TargetsRoom, FlagsRoom, BoundsRoom};
 ghost use Rattle.table_rules.specs.Meaning.{Ready};

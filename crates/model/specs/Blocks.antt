@@ -12,7 +12,7 @@ use Rattle.integers.specs.Range.{contains, meet, size}
 use Rattle.integers.specs.Inverse.{inverse}
 use Rattle.integers.specs.LittleEndian.{split, bitsOf}
 use Rattle.systems.specs.Lists.{collect}
-use Rattle.systems.specs.Exploration.{explore, place}
+use Rattle.exploration.specs.Exploration.{explore, place}
 use Rattle.model.specs.declared.Rule.{Rule}
 use Rattle.model.specs.declared.Rule.the-variants.{Set, Carry}
 use Rattle.model.specs.Sheet.{Configuration, Box, Move, Barred, Open, Region, Sheet, inBox, regionOf, landing, step, sheetSystem}

@@ -11,7 +11,7 @@ use lib.ListN.{length, getD, take, drop, length-append, length-drop, List·getD-
 use lib.Seq.{drop-append-add, getD-append-add, getD-take, getD-drop, ext-getD}
 use Rattle.integers.specs.LittleEndian.{split, joined, unsignedAt, Bytes, bytes-none, bytes-more, bytes-append, length-split, split-bytes, joined-split, split-joined}
 use Rattle.systems.specs.Lists.{collect, Wide, length-collect, drop-collect, length-each, getD-each}
-use Rattle.systems.specs.Places.{place-le}
+use Rattle.exploration.specs.Places.{place-le}
 use Rattle.model.specs.Sheet.{Configuration, Region, Sheet, nowhere, regionOf, regionNumber, step, Each, each-more, RegionFits, WellFormed}
 use Rattle.model.specs.Blocks.{sameClass, blocks, blockAt, targetByte, chartRecord, chartMark, chartOf}
 use Rattle.model.specs.Chart.{actionsOf, blocksOf, recordAt, labelOf, targetOf}

@@ -8,7 +8,7 @@ use lib.Dec.{eqb}
 use lib.ListN.{length}
 use Rattle.systems.specs.Search.{any, count}
 use Rattle.systems.specs.System.{reading, Below}
-use Rattle.systems.specs.Counting.{numbers, classes}
+use Rattle.exploration.specs.Counting.{numbers, classes}
 use Rattle.model.specs.Chart.{actionsOf, blocksOf, labelOf, chartSystem, roundClass}
 
 -- two blocks are in one class after k rounds

@@ -11,7 +11,7 @@ use lib.Dec.{eqb}
 use Rattle.systems.specs.Search.{least}
 use Rattle.systems.specs.System.{reading}
 use Rattle.systems.specs.Laws.{told, true-is, not-true, not-tells, least-least, count-is}
-use Rattle.systems.specs.Counting.{numbers, numbers-mem, classes-some}
+use Rattle.exploration.specs.Counting.{numbers, numbers-mem, classes-some}
 use Rattle.model.specs.Chart.{blocksOf, labelOf, chartSystem, roundClass, ChartRules}
 use Rattle.model.specs.ChartDepth.{parts, depthOf, labelCount, depthLimit, ApartIn, AllApartIn, NotBefore, Settles}
 use Rattle.model.specs.Rounds.{TargetsRight, Quiet, Parted, quiet-or, parts-tells, parted-loud, round-tells, round-apart, rounds-alike, rounds-told, quiet-later, quiet-alike, quiet-from, parting-few}

@@ -6,11 +6,11 @@ use mathlib.Core.Option.{Option, some, none, Option·map}
 use Prim.Native.Nat.{ℕ, _≤_, _<_}
 use native.Mathlib.Omega.{arith}
 use lib.ListN.{length, getD}
-use Rattle.systems.specs.Exploration.{explore, place}
+use Rattle.exploration.specs.Exploration.{explore, place}
 use Rattle.systems.specs.System.{Alike, Below}
 use Rattle.systems.specs.Alike.{alike-below, alike-label}
-use Rattle.systems.specs.Explored.{Explorable}
-use Rattle.systems.specs.LockStep.{All2, all2-length, all2-at, alike-explore, alike-explore-place}
+use Rattle.exploration.specs.Explored.{Explorable}
+use Rattle.exploration.specs.LockStep.{All2, all2-length, all2-at, alike-explore, alike-explore-place}
 use Rattle.model.specs.Sheet.{Configuration, Sheet, step, sheetSystem, sheetReading, Covered, WellFormed}
 use Rattle.model.specs.Blocks.{sameClass, blocks, blockAt, targetByte, chartOf}
 use Rattle.model.specs.Chart.{chartReading}

@@ -8,11 +8,11 @@ use native.Mathlib.Decide.{decLt, ℕ-discrete}
 use native.Mathlib.Omega.{arith}
 use borrow.Author.Tests.{eq-eqb, ne-eqb}
 use lib.ListN.{length, getD}
-use Rattle.systems.specs.Exploration.{explore, place}
+use Rattle.exploration.specs.Exploration.{explore, place}
 use Rattle.systems.specs.System.{System, Alike}
 use Rattle.systems.specs.Alike.{Both, both-barred, both-open, bisimilar-alike, alike-trans}
-use Rattle.systems.specs.Explored.{seen, grown, present, seen-zero, seen-last, seen-next, step-known, step-named}
-use Rattle.systems.specs.Quotient.{quotient, quotient-label, quotient-step, quotient-alike, quotient-closed}
+use Rattle.exploration.specs.Explored.{seen, grown, present, seen-zero, seen-last, seen-next, step-known, step-named}
+use Rattle.exploration.specs.Quotient.{quotient, quotient-label, quotient-step, quotient-alike, quotient-closed}
 use Rattle.model.specs.Sheet.{Configuration, Move, Barred, Open, Region, Sheet, regionOf, moved, step, sheetSystem, sheetReading, Covered, WellFormed}
 use Rattle.model.specs.Blocks.{sameClass, blocks, blockAt, targetByte, chartOf}
 use Rattle.model.specs.Chart.{labelOf, targetOf, blockNamed, chartStep, chartSystem, chartReading, nextAfter, nextIn, nextUnnamed, ChartRules}

@@ -8,8 +8,8 @@ use lib.Dec.{T}
 use lib.ListN.{length}
 use Rattle.systems.specs.System.{Alike, at-start, Below}
 use Rattle.systems.specs.Words.{ended}
-use Rattle.systems.specs.Quotient.{quotient-step}
-use Rattle.systems.specs.FirstWords.{NumberedAsNamed, Along, FirstWord, numbered-same, explored-numbered, first-word, along-below, along-length, ended-reached}
+use Rattle.exploration.specs.Quotient.{quotient-step}
+use Rattle.exploration.specs.FirstWords.{NumberedAsNamed, Along, FirstWord, numbered-same, explored-numbered, first-word, along-below, along-length, ended-reached}
 use Rattle.model.specs.Sheet.{Sheet, inBox, sheetSystem, Covered, WellFormed}
 use Rattle.model.specs.Blocks.{classOf, sameClass, blocks, blockAt, chartOf}
 use Rattle.model.specs.Chart.{chartSystem}

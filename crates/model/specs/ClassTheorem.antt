@@ -9,8 +9,8 @@ use lib.Dec.{T}
 use lib.ListN.{length, getD, List·getD-eq-default}
 use Rattle.systems.specs.System.{Alike, Reached, at-start, by-step}
 use Rattle.systems.specs.Alike.{AlikeTo, alike-to-zero, alike-to-le, alike-depths, alike-refl, alike-sym, alike-trans}
-use Rattle.systems.specs.Explored.{Explorable, Representatives, explore-representatives}
-use Rattle.systems.specs.Moore.{Tested, alike-length}
+use Rattle.exploration.specs.Explored.{Explorable, Representatives, explore-representatives}
+use Rattle.exploration.specs.Moore.{Tested, alike-length}
 use Rattle.model.specs.Sheet.{Configuration, Box, Sheet, inBox, regionOf, nowhere, Move, Barred, moved, step, Region, regionNumber, Covered, sheetSystem, regionSystem, RangeFits, Each, WellFormed}
 use Rattle.model.specs.Blocks.{classBox, configurations, classOf, sameClass, blocks}
 use Rattle.model.specs.Boxes.{inBox-parts, Inside, inside-length, inside-fits, within-ordered, box-inside, box-ext}

@@ -15,7 +15,4 @@ pub mod ChartDepthLaws
 pub mod ChartRules
 pub mod ChartWords
 pub mod ChartEquality
-pub mod Composition
-pub mod Distinguishing
-pub mod DepthBound
 pub mod Theorems

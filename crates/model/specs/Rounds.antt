@@ -14,8 +14,8 @@ use Rattle.systems.specs.Search.{any, all, count}
 use Rattle.systems.specs.System.{Alike, below-nil, below-cons}
 use Rattle.systems.specs.Laws.{not-tells, both, any-true, all-true, same-test, below-suc, count-ext, least-tells, least-own, eqb-tells}
 use Rattle.systems.specs.Alike.{reading-parts, barred-differs, open-next, Both, both-barred, both-open, AlikeTo, alike-to-zero, alike-to-suc, alike-to-le, alike-depths, alike-to-equivalence}
-use Rattle.systems.specs.Counting.{numbers, numbers-length, numbers-mem, Finer, classes, classes-finer}
-use Rattle.systems.specs.Moore.{Chain, changes, changed, changed-differs, changes-le, settled-from, Tested, depths-chain, alike-length}
+use Rattle.exploration.specs.Counting.{numbers, numbers-length, numbers-mem, Finer, classes, classes-finer}
+use Rattle.exploration.specs.Moore.{Chain, changes, changed, changed-differs, changes-le, settled-from, Tested, depths-chain, alike-length}
 use Rattle.model.specs.Chart.{actionsOf, blocksOf, labelOf, targetOf, blockNamed, chartStep, chartSystem, ToldApart, sameTarget, refines, roundClass}
 use Rattle.model.specs.ChartDepth.{sameRound, parts, labelCount, ApartIn}
 

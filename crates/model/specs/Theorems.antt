@@ -11,7 +11,7 @@ use borrow.Author.Tests.{ltb-true, lt-ltb}
 use Rattle.systems.specs.System.{Reached, reading, Alike, Below}
 use Rattle.systems.specs.Alike.{Bisimulation, alike-bisimulation, bisimilar-alike}
 use Rattle.systems.specs.Entries.{entries-tell}
-use Rattle.systems.specs.Explored.{Many, explored, explored-one, refused}
+use Rattle.exploration.specs.Explored.{Many, explored, explored-one, refused}
 use Rattle.model.specs.Sheet.{Configuration, Sheet, inBox, sheetSystem, sheetReading, Covered, WellFormed}
 use Rattle.model.specs.Blocks.{classOf, sameClass, blocks, blockAt, tooMany, chartOf}
 use Rattle.model.specs.Chart.{chartSystem, ChartRules, chartReading}

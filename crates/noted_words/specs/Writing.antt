@@ -5,7 +5,7 @@ use Prim.Native.Nat.{ℕ, suc, _-_, _≤_, _<_}
 use native.Mathlib.Omega.{arith}
 use lib.ListN.{length, getD, set, take, drop, length-append, length-set, take-append-drop}
 use lib.Seq.{length-take-le, drop-length, take-suc, drop-cons, set-at, getD-at, drop-at}
-use Rattle.answers.specs.Run.{overwrite}
+use Rattle.answer_rules.specs.Run.{overwrite}
 use Rattle.noted_words.specs.Words.{Falling, notedWord, word-none, word-more, word-length}
 
 -- the buffer once the elements of w from i on stand in it

@@ -8,7 +8,7 @@ use mathlib.Core.Option.{Option, some, none}
 use lib.ListN.{getD}
 use Rattle.systems.specs.System.{System, after, entry}
 use Rattle.systems.specs.Entries.{Plain}
-use Rattle.answers.specs.Walk.{isBarred}
+use Rattle.answer_rules.specs.Walk.{isBarred}
 use Rattle.model.specs.Chart.{blocksOf, chartStep, chartSystem}
 use Rattle.chart_bytes.specs.declared.acting.Acted.{Acted}
 use Rattle.chart_bytes.specs.Acting.{Acts}

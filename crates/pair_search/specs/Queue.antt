@@ -11,15 +11,15 @@ use lib.Seq.{getD-set-same, getD-set-other}
 use Rattle.systems.specs.System.{entry, Below, below-nil, Alike}
 use Rattle.systems.specs.Laws.{below-next}
 use Rattle.systems.specs.Entries.{Plain}
-use Rattle.systems.specs.Beside.{side, side-left, side-right}
-use Rattle.systems.specs.FirstWords.{below-snoc}
+use Rattle.exploration.specs.Beside.{side, side-left, side-right}
+use Rattle.exploration.specs.FirstWords.{below-snoc}
 use Rattle.model.specs.Chart.{actionsOf, blocksOf, labelOf, chartStep, chartSystem}
 use Rattle.model.specs.Rounds.{TargetsRight, chartStep-out}
 use Rattle.chart_bytes.specs.Shape.{Shaped}
 use Rattle.noted_words.specs.Words.{Falling, notedWord, word-none, word-more, word-same}
-use Rattle.systems.specs.Pairs.{Pair, JoinedAll, Visited, FirstSeparating}
-use Rattle.systems.specs.PairVisiting.{visited-begun, visited-barred, visited-joined, visited-new, visited-next}
-use Rattle.systems.specs.PairVerdict.{visited-all, visited-parts, starts-apart}
+use Rattle.exploration.specs.Pairs.{Pair, JoinedAll, Visited, FirstSeparating}
+use Rattle.exploration.specs.PairVisiting.{visited-begun, visited-barred, visited-joined, visited-new, visited-next}
+use Rattle.exploration.specs.PairVerdict.{visited-all, visited-parts, starts-apart}
 use Rattle.pair_search.specs.Classes.{merged, Classes, classes-begun, classes-room, classes-merged}
 
 -- what is asked of the two charts: their form is right, no label is 65,535, and they have as many actions

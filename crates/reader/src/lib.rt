@@ -3,10 +3,13 @@
 // Public: no function asks anything of its caller, and each contract gives the answer as a definition does.
 ghost use mathlib.Core.Path.{_≡_};
 ghost use Rattle.chart.specs.Check.{chartCheck};
-ghost use Rattle.reader.specs.Reading.{stepAt, firstNext};
+ghost use Rattle.reader_rules.specs.Reading.{stepAt, firstNext};
 use crate::steps::opening;
 use crate::steps::step_at;
 use answers::Checked;
+pub use reader_rules::Handed;
+pub use reader_rules::Opening;
+pub use reader_rules::Step;
 
 mod steps;
 
@@ -22,26 +25,6 @@ pub struct Reader<'a> {
 pub struct Opened<'a> {
     pub answer: Checked,
     pub reader: Reader<'a>,
-}
-
-// What opening tells, without the bytes.
-pub struct Opening {
-    pub answer: Checked,
-    pub next: usize,
-}
-
-// A block's label, or that none is left.
-pub enum Handed {
-    Block { label: u16 },
-    NoneLeft,
-}
-
-// What is handed out. The targets, by action, stand beside the enum: a block's number, or 255 for barred, and 255 past the last action.
-// Then the number of the next block.
-pub struct Step {
-    pub handed: Handed,
-    pub targets: [u8; 8],
-    pub next: usize,
 }
 
 // Opens a reader over a chart's bytes. Where the chart is refused, the reader stands past every block.

@@ -3,16 +3,16 @@ ghost use mathlib.Core.Path.{_≡_};
 ghost use Prim.Native.Nat.{_<_};
 ghost use Rattle.model.specs.Chart.{blocksOf};
 ghost use Rattle.chart_bytes.specs.Shape.{Shaped};
-ghost use Rattle.reader.specs.Reading.{targetsOf, blockStep, noneStep, stepAt, firstNext, openingOf};
-use crate::Handed;
-use crate::Opening;
-use crate::Step;
+ghost use Rattle.reader_rules.specs.Reading.{targetsOf, blockStep, noneStep, stepAt, firstNext, openingOf};
 use answers::Checked;
 use chart_bytes::fields::actions_of;
 use chart_bytes::fields::blocks_of;
 use chart_bytes::fields::label_of;
 use chart_bytes::fields::target_of;
 use chart_bytes::header::check_header;
+use reader_rules::Handed;
+use reader_rules::Opening;
+use reader_rules::Step;
 
 // The targets of block i, 255 past the last action.
 fn targets_of(c: &[u8], i: usize) -> [u8; 8]

@@ -13,14 +13,14 @@ use lib.Dec.{T}
 use lib.ListN.{length}
 use Rattle.systems.specs.System.{System, Alike, Reached, at-start, by-step}
 use Rattle.systems.specs.Alike.{AlikeTo, alike-to-le, alike-next, both-left}
-use Rattle.systems.specs.Moore.{alike-numbers}
-use Rattle.systems.specs.Quotient.{quotient, quotient-alike, quotient-closed}
-use Rattle.systems.specs.Explored.{Few, explored}
+use Rattle.exploration.specs.Moore.{alike-numbers}
+use Rattle.exploration.specs.Quotient.{quotient, quotient-alike, quotient-closed}
+use Rattle.exploration.specs.Explored.{Few, explored}
 use Rattle.model.specs.declared.Rule.{Rule}
 use Rattle.model.specs.Sheet.{Configuration, Open, Sheet, inBox, landing, sheetSystem, Covered, WellFormed}
 use Rattle.model.specs.Blocks.{classBox, sameClass, blocks, blockAt, tooMany}
 use Rattle.model.specs.Boxes.{box-ext}
-use Rattle.model.specs.DepthBound.{Doublings, depthBound, depth-exact}
+use Rattle.depth_rules.specs.DepthBound.{Doublings, depthBound, depth-exact}
 use Rattle.model.specs.ClassTheorem.{class-depth, sheet-explorable, blocks-representatives}
 use Rattle.refinement.specs.Table.{Sound, new-apart, next-reached, next-covered}
 use Rattle.refinement.specs.Depth.{Shrunk, AllDeep, deep-le}

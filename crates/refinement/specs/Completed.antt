@@ -11,7 +11,7 @@ use lib.Dec.{T, eqb, eqb→eq}
 use lib.ListN.{length, getD}
 use Rattle.integers.specs.LittleEndian.{split}
 use Rattle.systems.specs.Lists.{collect, collect-ext}
-use Rattle.systems.specs.Exploration.{place, known}
+use Rattle.exploration.specs.Exploration.{place, known}
 use Rattle.systems.specs.Laws.{is-false}
 use Rattle.model.specs.Sheet.{Box, Sheet, inBox, regionOf, step, sheetSystem, WellFormed}
 use Rattle.model.specs.Blocks.{classOf, sameClass, blocks, blockAt, tooMany, targetByte, chartRecord, chartMark, chartOf, rangeBytes, boxRecord, boxListOf}

@@ -12,7 +12,7 @@ use borrow.Author.Tests.{lt-ltb}
 use Rattle.model.specs.declared.Rule.{Rule}
 use Rattle.model.specs.Sheet.{Configuration, Barred, Open, Sheet, inBox, landing, sheetSystem, WellFormed}
 use Rattle.model.specs.Blocks.{blocks, tooMany}
-use Rattle.model.specs.DepthBound.{Doublings, depthBound}
+use Rattle.depth_rules.specs.DepthBound.{Doublings, depthBound}
 use Rattle.model.specs.Classes.{covered-in}
 use Rattle.refinement.specs.Table.{Sound, Cut, StableAt, stable-barred, stable-open, cut-settled}
 use Rattle.refinement.specs.Flags.{Quiet, Elsewhere, Lowered, quiet-first, quiet-pass, quiet-cut, quiet-append, quiet-stable}

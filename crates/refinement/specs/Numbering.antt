@@ -10,13 +10,13 @@ use borrow.Author.Tests.{lt-ltb, le-ltb}
 use lib.Dec.{T, eqb, ltb, eqb→eq, eqb-refl}
 use lib.ListN.{length, getD}
 use Rattle.systems.specs.System.{System, Alike}
-use Rattle.systems.specs.Exploration.{place, explore}
+use Rattle.exploration.specs.Exploration.{place, explore}
 use Rattle.systems.specs.Laws.{same-test}
 use Rattle.systems.specs.Alike.{Both, both-barred, both-open, alike-refl, alike-label}
-use Rattle.systems.specs.Places.{prefix-length}
-use Rattle.systems.specs.Explored.{Explorable, Many, explore-representatives, explore-prefix, one-index, refused}
-use Rattle.systems.specs.LockStep.{All2, all2-length, all2-at, LockStep, lock-explore, lock-step-place}
-use Rattle.systems.specs.Pigeonhole.{pigeonhole}
+use Rattle.exploration.specs.Places.{prefix-length}
+use Rattle.exploration.specs.Explored.{Explorable, Many, explore-representatives, explore-prefix, one-index, refused}
+use Rattle.exploration.specs.LockStep.{All2, all2-length, all2-at, LockStep, lock-explore, lock-step-place}
+use Rattle.exploration.specs.Pigeonhole.{pigeonhole}
 use Rattle.model.specs.Chart.{blockNamed}
 use Rattle.model.specs.Rounds.{named-block, named-barred}
 use Rattle.refinement.specs.Table.{Frame, Framed, Sound, StableAt, stable-barred, stable-open, Stable, row-barred, row-alike, alike-row, sound-many}

@@ -6,8 +6,8 @@ use mathlib.Core.Logic.{_⊎_, ⊎-elim}
 use mathlib.Core.List.{List}
 use lib.Dec.{eqb}
 use lib.ListN.{length, getD}
-use Rattle.systems.specs.Exploration.{added}
-use Rattle.systems.specs.Explored.{present, member-stays}
+use Rattle.exploration.specs.Exploration.{added}
+use Rattle.exploration.specs.Explored.{present, member-stays}
 use Rattle.model.specs.Sheet.{Sheet, WellFormed}
 use Rattle.model.specs.Blocks.{sameClass}
 use Rattle.model.specs.Chart.{blockNamed}

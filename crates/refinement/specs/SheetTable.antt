@@ -12,7 +12,7 @@ use borrow.Author.Tests.{lt-ltb}
 use lib.Dec.{T}
 use lib.ListN.{length, getD, List·getD-eq-default}
 use Rattle.systems.specs.Alike.{Both, both-barred, both-open, alike-label}
-use Rattle.systems.specs.Explored.{refused}
+use Rattle.exploration.specs.Explored.{refused}
 use Rattle.model.specs.declared.Rule.{Rule}
 use Rattle.model.specs.Sheet.{Configuration, Box, Move, Barred, Open, Region, Sheet, inBox, regionNumber, regionOf, landing, moved, step, sheetSystem, Covered, WellFormed}
 use Rattle.model.specs.Sheet.{MoveFits, barred-fits, open-fits, RuleFits, Each}

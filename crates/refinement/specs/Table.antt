@@ -10,7 +10,7 @@ use mathlib.Core.Option.{Option, some, none}
 use lib.Dec.{T}
 use Rattle.systems.specs.System.{System, Alike, Reached, at-start, by-step}
 use Rattle.systems.specs.Alike.{Both, both-barred, both-open, both-right, Bisimulation, bisimilar-alike, alike-next}
-use Rattle.systems.specs.Explored.{Many}
+use Rattle.exploration.specs.Explored.{Many}
 
 -- What a table is about: a system with its start, a set of configurations that no step leaves, regions, and rows with a representative and a membership test.
 pub record Frame (X Row : Type 0) : Type 1 where

@@ -11,11 +11,11 @@ use mathlib.Core.Option.{none}
 use lib.Dec.{T, eqb, eqb→eq, eqb-refl}
 use lib.ListN.{length, getD, length-append, List·getD-append}
 use lib.Seq.{getD-append-seam}
-use Rattle.systems.specs.Exploration.{place, known, added, visited}
+use Rattle.exploration.specs.Exploration.{place, known, added, visited}
 use Rattle.systems.specs.Laws.{told, is-true, true-is, not-true, is-false}
-use Rattle.systems.specs.Places.{Prefix, prefix-refl, prefix-trans, prefix-length, prefix-at, known-place, place-new, known-in, known-at, prefix-known, prefix-place}
-use Rattle.systems.specs.Places.{added-old, added-new, added-prefix, added-place}
-use Rattle.systems.specs.Explored.{seen, seen-zero, seen-start, seen-row, explore-done, step-known}
+use Rattle.exploration.specs.Places.{Prefix, prefix-refl, prefix-trans, prefix-length, prefix-at, known-place, place-new, known-in, known-at, prefix-known, prefix-place}
+use Rattle.exploration.specs.Places.{added-old, added-new, added-prefix, added-place}
+use Rattle.exploration.specs.Explored.{seen, seen-zero, seen-start, seen-row, explore-done, step-known}
 use Rattle.model.specs.Chart.{blockNamed}
 use Rattle.model.specs.Rounds.{named-block, named-barred}
 use Rattle.refinement.specs.Numbering.{targetSystem, target-step, target-explorable, walk}

@@ -8,10 +8,10 @@ use lib.Dec.{eqb, leb}
 use lib.ListN.{length}
 use borrow.Author.Tests.{eqb-true, leb-true}
 use Rattle.systems.specs.System.{Alike}
-use Rattle.answers.specs.declared.Checked.{Checked}
-use Rattle.answers.specs.declared.Checked.the-variants.{Fine, Refused}
-use Rattle.answers.specs.Stages.{demand, then-fine, demand-fine}
-use Rattle.answers.specs.Run.{overwrite}
+use Rattle.answer_rules.specs.declared.Checked.{Checked}
+use Rattle.answer_rules.specs.declared.Checked.the-variants.{Fine, Refused}
+use Rattle.answer_rules.specs.Stages.{demand, then-fine, demand-fine}
+use Rattle.answer_rules.specs.Run.{overwrite}
 use Rattle.model.specs.Chart.{actionsOf, blocksOf, chartSystem, chartReading}
 use Rattle.model.specs.Labels.{chart-plain}
 use Rattle.chart_bytes.specs.Shape.{Shaped}

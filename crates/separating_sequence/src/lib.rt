@@ -3,7 +3,7 @@
 ghost use mathlib.Core.Path.{_≡_};
 ghost use Prim.Native.Nat.{_≤_};
 ghost use lib.ListN.{length};
-ghost use Rattle.answers.specs.declared.Checked.the-variants.{Fine};
+ghost use Rattle.answer_rules.specs.declared.Checked.the-variants.{Fine};
 ghost use Rattle.pair_search.specs.Queue.{Comparable};
 ghost use Rattle.separation_rules.specs.Separation.{raisedBy, chartsCheck, pairCheck, bytesNeeded, evidence, separatedBy, leftBy};
 use answers::Checked;

@@ -10,10 +10,10 @@ use lib.ListN.{length, take, drop}
 use lib.Seq.{take-at, drop-at}
 use borrow.Author.Tests.{eq-eqb, le-leb, leb-true, eqb-true}
 use Rattle.integers.specs.LittleEndian.{Bytes}
-use Rattle.answers.specs.declared.Checked.{Checked}
-use Rattle.answers.specs.declared.Checked.the-variants.{Fine, Refused}
-use Rattle.answers.specs.Stages.{demand, passed, then-fine, demand-fine, demand-passed}
-use Rattle.answers.specs.Run.{overwrite}
+use Rattle.answer_rules.specs.declared.Checked.{Checked}
+use Rattle.answer_rules.specs.declared.Checked.the-variants.{Fine, Refused}
+use Rattle.answer_rules.specs.Stages.{demand, passed, then-fine, demand-fine, demand-passed}
+use Rattle.answer_rules.specs.Run.{overwrite}
 use Rattle.model.specs.Chart.{actionsOf, chartReading, ChartRules}
 use Rattle.chart.specs.Accepted.{accepted}
 use Rattle.separation_rules.specs.declared.Separation.the-variants.{Equal, Parted}

@@ -7,9 +7,9 @@ use native.Mathlib.Omega.{arith}
 use lib.Dec.{eqb, leb}
 use lib.ListN.{length}
 use borrow.Author.Tests.{eq-eqb, ne-eqb, le-leb, lt-leb}
-use Rattle.answers.specs.declared.Checked.{Checked}
-use Rattle.answers.specs.declared.Checked.the-variants.{Fine, Refused}
-use Rattle.answers.specs.Stages.{passed, refused, then-fine, demand-passed, demand-failed}
+use Rattle.answer_rules.specs.declared.Checked.{Checked}
+use Rattle.answer_rules.specs.declared.Checked.the-variants.{Fine, Refused}
+use Rattle.answer_rules.specs.Stages.{passed, refused, then-fine, demand-passed, demand-failed}
 use Rattle.model.specs.Chart.{actionsOf, blocksOf, ChartRules}
 use Rattle.chart.specs.Check.{chartCheck}
 use Rattle.chart.specs.Accepted.{accepted}

@@ -9,10 +9,10 @@ use lib.Dec.{eqb, leb}
 use lib.ListN.{length}
 use Rattle.systems.specs.System.{sameReading, Below}
 use Rattle.systems.specs.Words.{shorterLists, firstThat, Sooner}
-use Rattle.answers.specs.declared.Checked.{Checked}
-use Rattle.answers.specs.declared.Checked.the-variants.{Fine, Refused}
-use Rattle.answers.specs.Stages.{andThen, demand}
-use Rattle.answers.specs.Run.{overwrite}
+use Rattle.answer_rules.specs.declared.Checked.{Checked}
+use Rattle.answer_rules.specs.declared.Checked.the-variants.{Fine, Refused}
+use Rattle.answer_rules.specs.Stages.{andThen, demand}
+use Rattle.answer_rules.specs.Run.{overwrite}
 use Rattle.model.specs.Chart.{actionsOf, blocksOf, chartReading}
 use Rattle.chart.specs.Check.{chartCheck}
 use Rattle.separation_rules.specs.declared.Separation.{Separation}

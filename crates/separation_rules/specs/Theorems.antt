@@ -14,7 +14,7 @@ use Rattle.systems.specs.Laws.{not-tells}
 use Rattle.systems.specs.System.{written, reading, sameReading, Below}
 use Rattle.systems.specs.Words.{shorterLists, firstThat, Sooner, shorter, as-long}
 use Rattle.systems.specs.Alike.{reading-tells, reading-parts, alike-to-below}
-use Rattle.systems.specs.Beside.{alike-beside}
+use Rattle.exploration.specs.Beside.{alike-beside}
 use Rattle.systems.specs.Dictionary.{Found, found, nothing, Shorter, search-sequences, sequence-found}
 use Rattle.model.specs.Sheet.{Sheet, sheetReading, WellFormed}
 use Rattle.model.specs.Blocks.{blocks, chartOf}

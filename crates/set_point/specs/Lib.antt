@@ -1,4 +1,1 @@
-pub mod Euclid
-pub mod SetPoint
-pub mod Theorems
 pub mod Machine

@@ -14,10 +14,10 @@ use Rattle.integers.specs.Machine.{back64, within-fits, within-read, within-bac
 use Rattle.integers.specs.Inverse.{inverse}
 use Rattle.model.specs.declared.Rule.{Rule}
 use Rattle.model.specs.declared.Rule.the-variants.{Set, Carry}
-use Rattle.set_point.specs.declared.SetPoint.{SetPoint}
-use Rattle.set_point.specs.declared.SetPoint.the-variants.{Done, Refused}
-use Rattle.set_point.specs.Euclid.{quotient, remainder, quotient-pos, quotient-neg, quotient-within}
-use Rattle.set_point.specs.SetPoint.{allowed, solution, setPoint}
+use Rattle.set_point_rules.specs.declared.SetPoint.{SetPoint}
+use Rattle.set_point_rules.specs.declared.SetPoint.the-variants.{Done, Refused}
+use Rattle.set_point_rules.specs.Euclid.{quotient, remainder, quotient-pos, quotient-neg, quotient-within}
+use Rattle.set_point_rules.specs.SetPoint.{allowed, solution, setPoint}
 
 -- a conjunction as code finds it: its first part holds, so it is the second; or its first part does not
 pub conj-second : {t u : Bool} (a b : Bool) → t ≡ a → t ≡ true → u ≡ b → u ≡ (a && b)

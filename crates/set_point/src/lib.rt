@@ -3,18 +3,13 @@
 ghost use mathlib.Core.Path.{_≡_};
 ghost use lib.IntN.{pos, _-ℤ_};
 ghost use Rattle.integers.specs.Range.{Within};
-ghost use Rattle.set_point.specs.Euclid.{quotient};
-ghost use Rattle.set_point.specs.SetPoint.{factorAllowed, allowed, solution, setPoint};
+ghost use Rattle.set_point_rules.specs.Euclid.{quotient};
+ghost use Rattle.set_point_rules.specs.SetPoint.{factorAllowed, allowed, solution, setPoint};
 use integers::Range;
 use machine_integers::division::inverse_range;
 use machine_integers::ranges::near_zero;
 use model::Rule;
-
-// The old value, with what its new value is below the wanted one; or a refusal.
-pub enum SetPoint {
-    Done { old: i64, remainder: i64 },
-    Refused { number: u8, returned: usize },
-}
+pub use set_point_rules::SetPoint;
 
 // Whether a number may be the factor of a carry rule.
 fn is_factor(factor: i64) -> bool

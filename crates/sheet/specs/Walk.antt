@@ -13,14 +13,14 @@ use Rattle.integers.specs.LittleEndian.{Bytes}
 use Rattle.integers.specs.declared.Range.{Range}
 use Rattle.integers.specs.Range.{contains, contains-le, Within, within-zero, RangeWithin}
 use Rattle.systems.specs.Laws.{both}
-use Rattle.answers.specs.declared.Checked.the-variants.{Fine}
-use Rattle.answers.specs.declared.FirstBarred.{FirstBarred}
-use Rattle.answers.specs.declared.FirstBarred.the-variants.{Nothing}
-use Rattle.answers.specs.declared.Ran.the-variants.{Done}
-use Rattle.answers.specs.Stages.{then-fine}
-use Rattle.answers.specs.Run.{runChecks, notedAt, ranBy, leftBy}
-use Rattle.answers.specs.Sequence.{Runs, sequence-passed}
-use Rattle.answers.specs.Walk as Any
+use Rattle.answer_rules.specs.declared.Checked.the-variants.{Fine}
+use Rattle.answer_rules.specs.declared.FirstBarred.{FirstBarred}
+use Rattle.answer_rules.specs.declared.FirstBarred.the-variants.{Nothing}
+use Rattle.answer_rules.specs.declared.Ran.the-variants.{Done}
+use Rattle.answer_rules.specs.Stages.{then-fine}
+use Rattle.answer_rules.specs.Run.{runChecks, notedAt, ranBy, leftBy}
+use Rattle.answer_rules.specs.Sequence.{Runs, sequence-passed}
+use Rattle.answer_rules.specs.Walk as Any
 use Rattle.model.specs.declared.Rule.{Rule}
 use Rattle.model.specs.Sheet as Model
 use Rattle.model.specs.Sheet.{Configuration, Box, Region, Covered, WellFormed, within, inBox, applied, moved, step, regionOf, regionNumber, sheetSystem, sheetReading, RuleFits, Each, MoveFits, open-fits}

@@ -7,9 +7,9 @@ use lib.Dec.{leb}
 use lib.ListN.{length, take}
 use borrow.Author.Tests.{leb-true}
 use Rattle.systems.specs.Laws.{is-true, both}
-use Rattle.answers.specs.declared.Checked.{Checked}
-use Rattle.answers.specs.declared.Checked.the-variants.{Fine}
-use Rattle.answers.specs.Stages.{andThen, demand, each, then-fine}
+use Rattle.answer_rules.specs.declared.Checked.{Checked}
+use Rattle.answer_rules.specs.declared.Checked.the-variants.{Fine}
+use Rattle.answer_rules.specs.Stages.{andThen, demand, each, then-fine}
 use Rattle.sheet_bytes.specs.declared.Shape.{Shape}
 use Rattle.sheet_rules.specs.Layout.{sheetMark, versionOf, countersOf, actionsOf, regionsOf}
 use Rattle.sheet_rules.specs.Shape.{Shaped}

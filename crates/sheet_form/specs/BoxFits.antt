@@ -3,8 +3,8 @@ use mathlib.Core.Path.{_≡_}
 use mathlib.Core.List.{List}
 use Prim.Native.Nat.{ℕ, _<_}
 use Rattle.integers.specs.LittleEndian.{Bytes}
-use Rattle.answers.specs.declared.Checked.the-variants.{Fine}
-use Rattle.answers.specs.Stages.{each}
+use Rattle.answer_rules.specs.declared.Checked.the-variants.{Fine}
+use Rattle.answer_rules.specs.Stages.{each}
 use Rattle.sheet_rules.specs.Layout.{regionsOf}
 use Rattle.sheet_rules.specs.Form.{checkFields}
 use Rattle.sheet_rules.specs.Fits.{range-fits}

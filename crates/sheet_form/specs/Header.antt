@@ -7,9 +7,9 @@ use native.Mathlib.Omega.{arith}
 use lib.Dec.{eqb, leb}
 use lib.ListN.{length, getD, take}
 use borrow.Author.Tests.{eq-eqb, ne-eqb, le-leb, lt-leb}
-use Rattle.answers.specs.declared.Checked.{Checked}
-use Rattle.answers.specs.declared.Checked.the-variants.{Refused}
-use Rattle.answers.specs.Stages.{demand, demand-failed}
+use Rattle.answer_rules.specs.declared.Checked.{Checked}
+use Rattle.answer_rules.specs.declared.Checked.the-variants.{Refused}
+use Rattle.answer_rules.specs.Stages.{demand, demand-failed}
 use Rattle.sheet_bytes.specs.declared.Shape.{Shape}
 use Rattle.sheet_rules.specs.Layout.{sheetMark, versionOf, countersOf, actionsOf, regionsOf, boundSize, placeBy, regionPlace}
 use Rattle.sheet_rules.specs.Shape.{two-or-four, width-few}

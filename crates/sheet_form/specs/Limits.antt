@@ -13,9 +13,9 @@ use Rattle.integers.specs.declared.Range.{Range}
 use Rattle.integers.specs.Range.{near}
 use Rattle.integers.specs.LittleEndian.{signedAt}
 use Rattle.systems.specs.Laws.{run-ext}
-use Rattle.answers.specs.declared.Checked.{Checked}
-use Rattle.answers.specs.declared.Checked.the-variants.{Fine}
-use Rattle.answers.specs.Stages.{andThen, demand, each}
+use Rattle.answer_rules.specs.declared.Checked.{Checked}
+use Rattle.answer_rules.specs.declared.Checked.the-variants.{Fine}
+use Rattle.answer_rules.specs.Stages.{andThen, demand, each}
 use Rattle.sheet_bytes.specs.declared.Shape.{Shape}
 use Rattle.sheet_rules.specs.Layout.{offsetLimit, countersOf, actionsOf, kindOf, sourceOf, factorOf, offsetOf, rulePlace, startPlace, startValue, lowPlace, highPlace, movePlace, movePart}
 use Rattle.sheet_rules.specs.Decode.{rangeAt}

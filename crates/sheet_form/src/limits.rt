@@ -2,7 +2,7 @@
 ghost use mathlib.Core.Path.{_≡_};
 ghost use Prim.Native.Nat.{_+_, _*_, _<_, _≤_};
 ghost use lib.ListN.{length};
-ghost use Rattle.answers.specs.Stages.{each};
+ghost use Rattle.answer_rules.specs.Stages.{each};
 ghost use Rattle.sheet_rules.specs.Layout.{countersOf, regionsOf, moveSize};
 ghost use Rattle.sheet_bytes.specs.Three.{Read};
 ghost use Rattle.sheet_rules.specs.Form.{checkValue, checkBound, checkRule, checkZeroRule, checkMove, checkFields, checkLimits};

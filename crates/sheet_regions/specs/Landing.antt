@@ -12,8 +12,8 @@ use lib.IntN.{ℤ}
 use Rattle.integers.specs.LittleEndian.{Bytes}
 use Rattle.systems.specs.Laws.{same-test, run-ext}
 use Rattle.systems.specs.Lists.{length-each}
-use Rattle.answers.specs.declared.Checked.the-variants.{Fine}
-use Rattle.answers.specs.Stages.{each, demand}
+use Rattle.answer_rules.specs.declared.Checked.the-variants.{Fine}
+use Rattle.answer_rules.specs.Stages.{each, demand}
 use Rattle.model.specs.declared.Rule.{Rule}
 use Rattle.model.specs.Sheet.{Box, Move, Barred, Open, within, inBox, landing, moved, RuleFits, Each, MoveFits, open-fits}
 use Rattle.model.specs.Blocks.{volume, preimage}

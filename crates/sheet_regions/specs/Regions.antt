@@ -10,8 +10,8 @@ use Rattle.integers.specs.declared.Range.{Range}
 use Rattle.integers.specs.Range.{vacant, meet}
 use Rattle.systems.specs.Search.{any, all}
 use Rattle.systems.specs.Laws.{is-true, true-is, is-false, not-true, same-test, any-true, all-true}
-use Rattle.answers.specs.declared.Checked.{Checked}
-use Rattle.answers.specs.Stages.{demand}
+use Rattle.answer_rules.specs.declared.Checked.{Checked}
+use Rattle.answer_rules.specs.Stages.{demand}
 use Rattle.model.specs.Sheet.{regionNumber}
 use Rattle.sheet_bytes.specs.declared.Shape.{Shape}
 use Rattle.sheet_bytes.specs.declared.Config.{Config}

@@ -14,9 +14,9 @@ use Rattle.integers.specs.LittleEndian.{Bytes}
 use Rattle.systems.specs.Search.{run}
 use Rattle.systems.specs.Laws.{run-ext}
 use Rattle.systems.specs.Lists.{length-each}
-use Rattle.answers.specs.declared.Checked.{Checked}
-use Rattle.answers.specs.declared.Checked.the-variants.{Fine, Refused}
-use Rattle.answers.specs.Stages.{demand, each, each-more, each-first}
+use Rattle.answer_rules.specs.declared.Checked.{Checked}
+use Rattle.answer_rules.specs.declared.Checked.the-variants.{Fine, Refused}
+use Rattle.answer_rules.specs.Stages.{demand, each, each-more, each-first}
 use Rattle.model.specs.declared.Rule.{Rule}
 use Rattle.model.specs.Sheet.{RuleFits, Each, MoveFits, open-fits, Open as opened}
 use Rattle.model.specs.Blocks.{volume, preimage, cuts, emptied}

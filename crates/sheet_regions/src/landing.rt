@@ -2,7 +2,7 @@
 // within the region add up to its volume exactly when every configuration lands. The time goes by the number of regions.
 ghost use mathlib.Core.Path.{_≡_};
 ghost use Prim.Native.Nat.{_+_, _<_};
-ghost use Rattle.answers.specs.Stages.{each};
+ghost use Rattle.answer_rules.specs.Stages.{each};
 ghost use Rattle.model.specs.Blocks.{volume};
 ghost use Rattle.sheet_rules.specs.Layout.{actionsOf, regionsOf};
 ghost use Rattle.sheet_bytes.specs.Three.{Read};

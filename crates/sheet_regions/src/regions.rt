@@ -5,7 +5,7 @@ ghost use Prim.Native.Nat.{_<_};
 ghost use lib.Dec.{eqb};
 ghost use Rattle.integers.specs.Range.{vacant, meet};
 ghost use Rattle.systems.specs.Search.{any, all};
-ghost use Rattle.answers.specs.Stages.{each};
+ghost use Rattle.answer_rules.specs.Stages.{each};
 ghost use Rattle.sheet_rules.specs.Layout.{countersOf, regionsOf, labelAt};
 ghost use Rattle.sheet_rules.specs.Decode.{rangeAt};
 ghost use Rattle.sheet_bytes.specs.Three.{Read};

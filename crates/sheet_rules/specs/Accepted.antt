@@ -13,9 +13,9 @@ use Rattle.integers.specs.LittleEndian.{Bytes}
 use Rattle.systems.specs.Search.{any, run}
 use Rattle.systems.specs.Laws.{told, true-is, both, any-true}
 use Rattle.systems.specs.Lists.{length-each, getD-each}
-use Rattle.answers.specs.declared.Checked.{Checked}
-use Rattle.answers.specs.declared.Checked.the-variants.{Fine, Refused}
-use Rattle.answers.specs.Stages.{andThen, demand, each, then-fine, demand-fine, each-fine, each-all}
+use Rattle.answer_rules.specs.declared.Checked.{Checked}
+use Rattle.answer_rules.specs.declared.Checked.the-variants.{Fine, Refused}
+use Rattle.answer_rules.specs.Stages.{andThen, demand, each, then-fine, demand-fine, each-fine, each-all}
 use Rattle.model.specs.Sheet as Model
 use Rattle.model.specs.Sheet.{Configuration, Box, Move, Barred, Region, RegionFits, Covered, WellFormed, inBox, step, moved, regionOf, regionNumber, nowhere}
 use Rattle.model.specs.Listing.{members}

@@ -7,8 +7,8 @@ use Prim.Native.Nat.{ℕ}
 use lib.Dec.{eqb}
 use Rattle.integers.specs.Range.{meet, vacant}
 use Rattle.systems.specs.Search.{any, all}
-use Rattle.answers.specs.declared.Checked.{Checked}
-use Rattle.answers.specs.Stages.{andThen, demand, each}
+use Rattle.answer_rules.specs.declared.Checked.{Checked}
+use Rattle.answer_rules.specs.Stages.{andThen, demand, each}
 use Rattle.model.specs.Sheet.{Configuration, moved, inBox}
 use Rattle.model.specs.Listing.{members}
 use Rattle.sheet_rules.specs.Layout.{countersOf, actionsOf, regionsOf, regionPlace, labelAt, stateAt, movePlace}

@@ -11,9 +11,9 @@ use Rattle.integers.specs.Range.{near, Within, within-wider, leZ-le, near-withi
 use Rattle.integers.specs.LittleEndian.{Bytes, bytes-drop}
 use Rattle.systems.specs.Laws.{both, true-is, is-true}
 use Rattle.systems.specs.Lists.{length-each}
-use Rattle.answers.specs.declared.Checked.{Checked}
-use Rattle.answers.specs.declared.Checked.the-variants.{Fine}
-use Rattle.answers.specs.Stages.{andThen, each, then-fine, demand, demand-fine, each-fine}
+use Rattle.answer_rules.specs.declared.Checked.{Checked}
+use Rattle.answer_rules.specs.declared.Checked.the-variants.{Fine}
+use Rattle.answer_rules.specs.Stages.{andThen, each, then-fine, demand, demand-fine, each-fine}
 use Rattle.model.specs.declared.Rule.the-variants.{Set, Carry}
 use Rattle.model.specs.Sheet.{Barred, Open, RuleFits, set-fits, carry-fits, RangeFits, MoveFits, barred-fits, open-fits}
 use Rattle.sheet_rules.specs.Layout.{wide, offsetLimit, countersOf, actionsOf, regionsOf, regionPlace, labelAt, lowPlace, highPlace, movePlace, movePart, rulePlace, kindOf, sourceOf, factorOf, offsetOf}

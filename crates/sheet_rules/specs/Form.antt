@@ -7,8 +7,8 @@ use lib.Dec.{eqb, leb, ltb}
 use lib.ListN.{length, getD, drop, take}
 use lib.Signed.{leZ}
 use Rattle.integers.specs.Range.{near}
-use Rattle.answers.specs.declared.Checked.{Checked}
-use Rattle.answers.specs.Stages.{andThen, demand, each}
+use Rattle.answer_rules.specs.declared.Checked.{Checked}
+use Rattle.answer_rules.specs.Stages.{andThen, demand, each}
 use Rattle.sheet_rules.specs.Layout.{sheetMark, versionOf, offsetLimit, countersOf, actionsOf, regionsOf, startPlace, startValue, regionPlace, labelAt, lowPlace, highPlace, movePlace, movePart, rulePlace, kindOf, sourceOf, factorOf, offsetOf}
 use Rattle.sheet_rules.specs.Decode.{rangeAt}
 

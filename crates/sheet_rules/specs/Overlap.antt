@@ -15,8 +15,8 @@ use Rattle.integers.specs.Range.{contains, meet, meet-contains, vacant, vacant-
 use Rattle.systems.specs.Search.{any, all}
 use Rattle.systems.specs.Laws.{both, is-false, not-true, any-true, all-true}
 use Rattle.systems.specs.Lists.{length-each, getD-each}
-use Rattle.answers.specs.declared.Checked.the-variants.{Fine}
-use Rattle.answers.specs.Stages.{each, demand-fine, each-fine}
+use Rattle.answer_rules.specs.declared.Checked.the-variants.{Fine}
+use Rattle.answer_rules.specs.Stages.{each, demand-fine, each-fine}
 use Rattle.model.specs.Sheet.{Configuration, within, inBox}
 use Rattle.model.specs.Blocks.{empty}
 use Rattle.model.specs.Boxes.{within-cons, inBox-parts}

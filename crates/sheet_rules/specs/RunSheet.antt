@@ -3,11 +3,11 @@ use mathlib.Core.Path.{_≡_, sym, ap}
 use mathlib.Core.List.{List}
 use Prim.Native.Nat.{ℕ}
 use lib.ListN.{length}
-use Rattle.answers.specs.declared.Checked.{Checked}
-use Rattle.answers.specs.declared.Checked.the-variants.{Refused}
-use Rattle.answers.specs.declared.Ran.{Ran}
-use Rattle.answers.specs.Stages.{andThen, refused}
-use Rattle.answers.specs.Run.{runChecks, ranBy, leftBy}
+use Rattle.answer_rules.specs.declared.Checked.{Checked}
+use Rattle.answer_rules.specs.declared.Checked.the-variants.{Refused}
+use Rattle.answer_rules.specs.declared.Ran.{Ran}
+use Rattle.answer_rules.specs.Stages.{andThen, refused}
+use Rattle.answer_rules.specs.Run.{runChecks, ranBy, leftBy}
 use Rattle.model.specs.Sheet.{sheetReading}
 use Rattle.sheet_rules.specs.Layout.{actionsOf}
 use Rattle.sheet_rules.specs.Decode.{decode}

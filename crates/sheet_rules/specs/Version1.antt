@@ -10,9 +10,9 @@ use Rattle.integers.specs.Order.{ints}
 use Rattle.integers.specs.LittleEndian.{Bytes, Holds, signedAt, signed-held}
 use Rattle.integers.specs.Range.{near, contains-le}
 use Rattle.systems.specs.Laws.{is-true, run-ext}
-use Rattle.answers.specs.declared.Checked.{Checked}
-use Rattle.answers.specs.declared.Checked.the-variants.{Fine}
-use Rattle.answers.specs.Stages.{andThen, demand, each, each-all, passed, demand-passed}
+use Rattle.answer_rules.specs.declared.Checked.{Checked}
+use Rattle.answer_rules.specs.declared.Checked.the-variants.{Fine}
+use Rattle.answer_rules.specs.Stages.{andThen, demand, each, each-all, passed, demand-passed}
 use Rattle.sheet_rules.specs.Layout.{versionOf, wide, boundSize, offsetLimit, moveSize, regionSize, placeBy, countersOf, actionsOf, regionsOf, startPlace, startValue, regionPlace, labelAt, lowPlace, highPlace, movePlace, movePart}
 use Rattle.sheet_rules.specs.Decode.{rangeAt}
 use Rattle.sheet_rules.specs.Shape.{size-narrow, limit-narrow}

@@ -10,7 +10,7 @@ use native.Mathlib.Omega.{arith}
 use lib.ListN.{set}
 use lib.IntN.{ℤ}
 use Rattle.model.specs.Blocks.{tooMany}
-use Rattle.model.specs.DepthBound.{Doublings, depthBound}
+use Rattle.depth_rules.specs.DepthBound.{Doublings, depthBound}
 use Rattle.refinement.specs.Depth.{Near, near-kept, near-deep, deep-zero, deep-le, deep-kept, deep-shrunk}
 use Rattle.refinement.specs.SheetTable.{sheetFrame, sheet-framed}
 use Rattle.refinement.specs.Potential.{falling-refl, falling-trans, measure-pass}

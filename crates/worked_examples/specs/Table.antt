@@ -14,14 +14,14 @@ use Rattle.integers.specs.Division.{floorBy, floor, ceiling}
 use Rattle.integers.specs.Inverse.{inverse}
 use Rattle.integers.specs.LittleEndian.{joined, unsignedAt, signedOf, signedAt, split, bitsOf}
 use Rattle.systems.specs.Search.{run, count, least}
-use Rattle.systems.specs.Counting as counting
+use Rattle.exploration.specs.Counting as counting
 use Rattle.systems.specs.Lists.{collect}
 use Rattle.systems.specs.System.{after, entry, written, earliest, firstBarred, sameNumbers, sameIndex, sameReading, reading}
 use Rattle.systems.specs.Words.{ended, listsBelow, shorterLists, firstThat}
-use Rattle.systems.specs.Exploration.{place, known, added, visited, visitedAt, visitedNext, explore}
-use Rattle.answers.specs.declared.Checked.{Checked}
-use Rattle.answers.specs.declared.Checked.the-variants.{Fine, Refused}
-use Rattle.answers.specs.Stages.{andThen, demand}
+use Rattle.exploration.specs.Exploration.{place, known, added, visited, visitedAt, visitedNext, explore}
+use Rattle.answer_rules.specs.declared.Checked.{Checked}
+use Rattle.answer_rules.specs.declared.Checked.the-variants.{Fine, Refused}
+use Rattle.answer_rules.specs.Stages.{andThen, demand}
 use Rattle.model.specs.declared.Rule.the-variants.{Carry}
 use Rattle.model.specs.Sheet.{Move, Barred, Open, Region, Sheet, within, inBox, placeIn, regionNumber, regionOf, applied, updated, landing, moved, step, sheetSystem, sheetReading}
 use Rattle.model.specs.Blocks.{emptied, cut, cuts, preimage, narrowed, classBox, volume, volumes, configurations, classOf, sameClass, blocks, targetByte, chartRecord, chartOf, rangeBytes, boxRecord, boxListOf}
@@ -31,7 +31,7 @@ use Rattle.model.specs.Listing.{numbers, numbersIn, prefixed, valuesIn, members
 use Rattle.sheet_rules.specs.Layout.{versionOf, wide, boundSize, offsetLimit, moveSize, regionSize, startPlace, startValue, regionPlace, labelAt, stateAt, lowPlace, highPlace, movePlace, rulePlace, factorOf, offsetOf}
 use Rattle.sheet_rules.specs.Decode.{ruleOf, moveOf, rangeAt, boxAt, moveAt, regionAt, startOf, decode}
 use Rattle.sheet_rules.specs.Form.{sameBytes, checkHeader, checkCounts, checkLength, checkValue, checkBound, checkRule, checkZeroRule, checkMove, checkFields, checkLimits}
-use Rattle.congruence.specs.Congruence.{total, firstSolution, allBelow, allowed, eight, given, countsLeft}
+use Rattle.congruence_rules.specs.Congruence.{total, firstSolution, allBelow, allowed, eight, given, countsLeft}
 use Rattle.access_rules.specs.Access.{leadsInto, orEmpty, wayTo}
 use Rattle.separation_rules.specs.Separation.{partsCharts, evidence}
 use Rattle.sheet_rules.specs.Check.{checkLabel, overlap, checkOverlap, checkStart, every, lands, checkLanding, sheetCheck}

@@ -16,7 +16,7 @@ use mir.Val.{SFits}
 use Rattle.integers.specs.LittleEndian.{Holds, split, bitsOf, length-split}
 use Rattle.integers.specs.Order.{up, dn, le-in, lt-in, ltZ-true, ltZ-false, add-parts, up-neg, dn-neg, fits-out}
 use Rattle.systems.specs.Lists.{collect, length-collect}
-use Rattle.answers.specs.Run.{overwrite}
+use Rattle.answer_rules.specs.Run.{overwrite}
 use Rattle.model.specs.Blocks.{signedBytes, rangeBytes}
 use Rattle.refinement.specs.Completed.{boxBytes, tableBoxes}
 use Rattle.sheet_bytes.specs.declared.Shape.{Shape}

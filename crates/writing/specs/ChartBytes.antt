@@ -8,7 +8,7 @@ use lib.ListN.{length, getD, drop, length-append}
 use lib.Seq.{getD-drop}
 use Rattle.integers.specs.LittleEndian.{Bytes, split, joined, unsignedAt, length-split}
 use Rattle.systems.specs.Lists.{collect, length-collect, length-each}
-use Rattle.answers.specs.Run.{overwrite}
+use Rattle.answer_rules.specs.Run.{overwrite}
 use Rattle.model.specs.Blocks.{chartMark}
 use Rattle.sheet_rules.specs.Layout.{regionPlace, labelAt}
 use Rattle.table_rules.specs.Arrays.{regionIn, targetIn}

@@ -8,7 +8,7 @@ use native.Mathlib.Omega.{arith}
 use lib.ListN.{length, set, drop}
 use lib.Seq.{sets, length-sets, sets-eq}
 use Rattle.systems.specs.Lists.{collect}
-use Rattle.answers.specs.Run.{overwrite}
+use Rattle.answer_rules.specs.Run.{overwrite}
 
 -- the buffer d after the bytes b were stored from a place on
 unfoldable pub stored : List ℕ → ℕ → List ℕ → List ℕ

@@ -4,7 +4,7 @@ ghost use Prim.Native.Nat.{_+_, _*_, _^_, _<_, _≤_};
 ghost use lib.ListN.{length, getD};
 ghost use lib.IntN.{pos};
 ghost use Rattle.integers.specs.LittleEndian.{Holds, split, bitsOf};
-ghost use Rattle.answers.specs.Run.{overwrite};
+ghost use Rattle.answer_rules.specs.Run.{overwrite};
 ghost use Rattle.model.specs.Blocks.{signedBytes};
 ghost use Rattle.refinement.specs.Completed.{boxBytes, tableBoxes};
 ghost use Rattle.sheet_rules.specs.Shape.{TwoOrFour};

@@ -2,7 +2,7 @@
 ghost use mathlib.Core.Path.{_≡_};
 ghost use Prim.Native.Nat.{_+_, _*_, _<_, _≤_};
 ghost use lib.ListN.{length};
-ghost use Rattle.answers.specs.Run.{overwrite};
+ghost use Rattle.answer_rules.specs.Run.{overwrite};
 ghost use Rattle.sheet_bytes.specs.Three.{Read};
 ghost use Rattle.table_rules.specs.Arrays.{HomesRoom, TargetsRoom, regionIn};
 ghost use Rattle.writing.specs.Numbers.{OrderRoom, NumberRoom};

@@ -3,7 +3,7 @@
 ghost use mathlib.Core.Path.{_≡_};
 ghost use Prim.Native.Nat.{_+_, _*_, _≤_};
 ghost use lib.ListN.{length};
-ghost use Rattle.answers.specs.Run.{overwrite};
+ghost use Rattle.answer_rules.specs.Run.{overwrite};
 ghost use Rattle.model.specs.Blocks.{chartOf, boxListOf};
 ghost use Rattle.sheet_rules.specs.Layout.{boundSize};
 ghost use Rattle.sheet_rules.specs.Decode.{decode};

@@ -1,5 +1,5 @@
 use borrow.Author.Needs.{needs}
-use Rattle.answers.specs.Stages.{stop, go-on}
+use Rattle.answer_rules.specs.Stages.{stop, go-on}
 use Rattle.access_rules.specs.Access.{requestChecks}
 use Rattle.access_sequence.proofs.check_request.Statement.{statement}
 use Rattle.access_sequence.proofs.check_request.Tie as tie

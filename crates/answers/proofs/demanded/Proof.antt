@@ -1,4 +1,4 @@
-use Rattle.answers.specs.Stages.{demand-passed, demand-failed}
+use Rattle.answer_rules.specs.Stages.{demand-passed, demand-failed}
 use Rattle.answers.proofs.demanded.Statement.{statement}
 use Rattle.answers.proofs.demanded.Tie as tie
 

@@ -1,4 +1,4 @@
-use Rattle.answers.specs.Walk.{noted-known, noted-barred, noted-open}
+use Rattle.answer_rules.specs.Walk.{noted-known, noted-barred, noted-open}
 use borrow.Author.Needs.{needs}
 use Rattle.answers.proofs.noted.Statement.{statement}
 use Rattle.answers.proofs.noted.Tie as tie

@@ -1,5 +1,5 @@
 use mathlib.Core.Path.{sym, ap}
-use Rattle.answers.specs.declared.FirstBarred.{FirstBarred}
+use Rattle.answer_rules.specs.declared.FirstBarred.{FirstBarred}
 use Rattle.c_answers.specs.Exports.{barredIndex}
 use borrow.Author.Needs.{needs}
 use Rattle.c_answers.proofs.barred_index.Statement.{statement}

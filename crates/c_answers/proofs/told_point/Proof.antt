@@ -2,7 +2,7 @@ use mathlib.Core.Path.{sym, ap}
 use mir.Syntax.{w64}
 use mir.Val.{SFits}
 use mir.ValLaws.{toZ-ofZ}
-use Rattle.set_point.specs.declared.SetPoint.{SetPoint}
+use Rattle.set_point_rules.specs.declared.SetPoint.{SetPoint}
 use Rattle.c_answers.specs.Exports.{pointNumber, pointReturned, pointOld, pointRemainder}
 use borrow.Author.Needs.{needs}
 use Rattle.c_answers.proofs.told_point.Statement.{statement}

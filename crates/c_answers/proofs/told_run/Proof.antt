@@ -1,5 +1,5 @@
 use mathlib.Core.Path.{sym, ap, _∙_}
-use Rattle.answers.specs.declared.Ran.{Ran}
+use Rattle.answer_rules.specs.declared.Ran.{Ran}
 use Rattle.c_answers.specs.Exports.{runNumber, runReturned, runBarred}
 use borrow.Author.Needs.{needs}
 use Rattle.c_answers.proofs.told_run.Statement.{statement}

@@ -1,7 +1,7 @@
 use mathlib.Core.Path.{_≡_, sym, _∙_}
 use Prim.Native.Nat.{ℕ}
 use native.Mathlib.Omega.{arith}
-use Rattle.answers.specs.Stages.{andThen, stop, go-on}
+use Rattle.answer_rules.specs.Stages.{andThen, stop, go-on}
 use Rattle.chart_bytes.specs.HeaderLaws.{header-passed}
 use Rattle.chart_form.specs.Form.{limitsCheck, numbersCheck, barsCheck}
 use Rattle.chart.specs.Check.{formCheck}

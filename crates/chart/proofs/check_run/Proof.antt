@@ -1,7 +1,7 @@
 use mathlib.Core.Path.{sym, ap, _∙_}
 use Prim.Native.Nat.{ℕ}
-use Rattle.answers.specs.Stages.{passed, handed}
-use Rattle.answers.specs.Run.{runChecks}
+use Rattle.answer_rules.specs.Stages.{passed, handed}
+use Rattle.answer_rules.specs.Run.{runChecks}
 use Rattle.model.specs.Chart.{actionsOf}
 use Rattle.chart.specs.RunChart.{chartRunCheck}
 use Rattle.chart.specs.Accepted.{check-passed}

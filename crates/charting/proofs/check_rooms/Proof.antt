@@ -1,6 +1,6 @@
 use native.Mathlib.Omega.{arith}
 use Prim.Native.Nat.{_+_, _*_}
-use Rattle.answers.specs.Stages.{stop, go-on}
+use Rattle.answer_rules.specs.Stages.{stop, go-on}
 use Rattle.sheet_bytes.specs.Fields.{pairs-small}
 use Rattle.writing.specs.Stored.{rows-small}
 use Rattle.making_rules.specs.Making.{roomsFor}

@@ -2,7 +2,7 @@ use mathlib.Core.Path.{_≡_, sym, subst}
 use Prim.Native.Nat.{ℕ, _+_, _-_, _*_, _/_, _%_, _≤_}
 use native.Mathlib.Omega.{arith}
 use native.Mathlib.Nat.{mod-lt, div-le-self}
-use Rattle.congruence.specs.Euclid.{OnTheWay, begun, divided, ended}
+use Rattle.congruence_rules.specs.Euclid.{OnTheWay, begun, divided, ended}
 use Rattle.congruence.specs.Machine.{product-fits}
 use Rattle.congruence.proofs.euclid.Statement.{statement}
 use Rattle.congruence.proofs.euclid.Tie as tie

@@ -3,7 +3,7 @@ use mathlib.Core.Path.{sym}
 use Prim.Native.Nat.{_*_, _/_}
 use native.Mathlib.Omega.{arith}
 use native.Mathlib.Nat.{mod-lt, div-le-self}
-use Rattle.congruence.specs.Greedy.{bezout-least}
+use Rattle.congruence_rules.specs.Greedy.{bezout-least}
 use Rattle.congruence.specs.Machine.{product-fits, quotient-some}
 use Rattle.congruence.proofs.least_count.Statement.{statement}
 use Rattle.congruence.proofs.least_count.Tie as tie

@@ -4,7 +4,7 @@ use Prim.Native.Nat.{ℕ, _-_, _≤_, _<_}
 use native.Mathlib.Omega.{arith}
 use lib.ListN.{getD}
 use Rattle.systems.specs.Laws.{below-next}
-use Rattle.logs.specs.Machine.{stopped, ended}
+use Rattle.log_rules.specs.Machine.{stopped, ended}
 use Rattle.logs.proofs.first_difference.Statement.{statement}
 use Rattle.logs.proofs.first_difference.Tie as tie
 

@@ -1,8 +1,8 @@
 use borrow.Author.Needs.{needs}
 use native.Mathlib.Omega.{arith}
 use lib.ListN.{length}
-use Rattle.logs.specs.Theorems.{rest-apart, rest-second, rest-first}
-use Rattle.logs.specs.Machine.{index-within, of-first, of-second}
+use Rattle.log_rules.specs.Theorems.{rest-apart, rest-second, rest-first}
+use Rattle.log_rules.specs.Machine.{index-within, of-first, of-second}
 use Rattle.logs.proofs.rest.Statement.{statement}
 use Rattle.logs.proofs.rest.Tie as tie
 

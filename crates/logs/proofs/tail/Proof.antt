@@ -1,5 +1,5 @@
 use borrow.Author.Needs.{needs}
-use Rattle.logs.specs.Machine.{part-from}
+use Rattle.log_rules.specs.Machine.{part-from}
 use Rattle.logs.proofs.tail.Statement.{statement}
 use Rattle.logs.proofs.tail.Tie as tie
 

@@ -1,6 +1,6 @@
 use mathlib.Core.Path.{ap, _∙_}
 use lib.ListN.{length}
-use Rattle.answers.specs.declared.Ran.{Ran}
+use Rattle.answer_rules.specs.declared.Ran.{Ran}
 use Rattle.c_answers.specs.Exports.{runNumber, runReturned, runBarred}
 use borrow.Author.Needs.{needs}
 use Rattle.pilfstera.proofs.pilfstera_run_sheet.Statement.{statement}

@@ -2,8 +2,8 @@ use mir.Syntax.{w64}
 use mir.ValLaws.{toZ-ofZ}
 use mathlib.Core.Path.{ap, _∙_}
 use Rattle.model.specs.declared.Rule.{Rule}
-use Rattle.set_point.specs.declared.SetPoint.{SetPoint}
-use Rattle.set_point.specs.SetPoint.{setPoint}
+use Rattle.set_point_rules.specs.declared.SetPoint.{SetPoint}
+use Rattle.set_point_rules.specs.SetPoint.{setPoint}
 use Rattle.c_answers.specs.Exports.{pointNumber, pointReturned, pointOld, pointRemainder}
 use borrow.Author.Needs.{needs}
 use Rattle.pilfstera.proofs.pilfstera_set_point.Statement.{statement}

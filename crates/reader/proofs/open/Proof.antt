@@ -38,15 +38,15 @@ use denote.Triple.Table.{entered, cited}
 use denote.Triple.Walked.{says, Stays, stay-none-slice, walkOf, goes-none-slice, Walks, ends-at, walked, walk-meets}
 use denote.Exit.{yes}
 use denote.Triple.Clauses.{ensured, lasts}
-use Rattle.reader.specs.Reading.{openingOf}
-use Rattle.reader.specs.Steps.{opened-with}
+use Rattle.reader_rules.specs.Reading.{openingOf}
+use Rattle.reader_rules.specs.Steps.{opened-with}
 use Rattle.reader.specs.declared.Reader.{Reader}
-use Rattle.reader.specs.declared.Opening.{Opening}
+use Rattle.reader_rules.specs.declared.Opening.{Opening}
 use Rattle.reader.specs.declared.Opened.{Opened}
 use Rattle.reader.proofs.Reader as T
 use Rattle.reader.proofs.Reader.Laws as T′
-use Rattle.reader.proofs.Opening as G
-use Rattle.reader.proofs.Opening.Laws as G′
+use Rattle.reader_rules.proofs.Opening as G
+use Rattle.reader_rules.proofs.Opening.Laws as G′
 use Rattle.reader.proofs.Opened as P
 use Rattle.reader.proofs.Opened.Laws as P′
 use Rattle.reader.proofs.steps.opening as opening

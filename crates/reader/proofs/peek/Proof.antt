@@ -42,13 +42,13 @@ use denote.Triple.Table.{entered, cited}
 use denote.Triple.Walked.{says, Stays, stay-none, walkOf, goes-none, Walks, ends-at, walked, walk-meets}
 use denote.Exit.{yes}
 use denote.Triple.Clauses.{ensured, lasts}
-use Rattle.reader.specs.Reading.{stepAt}
+use Rattle.reader_rules.specs.Reading.{stepAt}
 use Rattle.reader.specs.declared.Reader.{Reader}
-use Rattle.reader.specs.declared.Step.{Step}
+use Rattle.reader_rules.specs.declared.Step.{Step}
 use Rattle.reader.proofs.Reader as T
 use Rattle.reader.proofs.Reader.Laws as T′
-use Rattle.reader.proofs.Step as S
-use Rattle.reader.proofs.Step.Laws as S′
+use Rattle.reader_rules.proofs.Step as S
+use Rattle.reader_rules.proofs.Step.Laws as S′
 use Rattle.reader.proofs.steps.step_at as step
 use Rattle.reader.proofs.steps.step_at.Symbol as step-def
 use Rattle.reader.proofs.steps.step_at.Symbol.{name as #reader·steps·step-at}

@@ -1,7 +1,7 @@
 use borrow.Author.Needs.{needs}
 use mathlib.Core.Path.{ap, _∙_}
 use lib.ListN.{length}
-use Rattle.answers.specs.Stages.{stop, go-on}
+use Rattle.answer_rules.specs.Stages.{stop, go-on}
 use Rattle.separation_rules.specs.Separation.{raisedBy, chartsCheck}
 use Rattle.separating_sequence.proofs.check_charts.Statement.{statement}
 use Rattle.separating_sequence.proofs.check_charts.Tie as tie

@@ -1,6 +1,6 @@
 use borrow.Author.Needs.{needs}
 use native.Mathlib.Omega.{arith}
-use Rattle.answers.specs.Stages.{stop, go-on}
+use Rattle.answer_rules.specs.Stages.{stop, go-on}
 use Rattle.separating_sequence.specs.Machine.{charts-shaped, counts-by, room-by}
 use Rattle.separation_rules.specs.Separation.{requestCheck, pairCheck}
 use Rattle.separating_sequence.proofs.check_pair.Statement.{statement}

@@ -2,7 +2,7 @@ use mathlib.Core.Path.{sym, _∙_}
 use mir.Syntax.{w64}
 use mir.Val.{SFits}
 use mir.ValLaws.{toZ-ofZ}
-use Rattle.set_point.specs.Theorems.{allowed-limits}
+use Rattle.set_point_rules.specs.Theorems.{allowed-limits}
 use Rattle.set_point.specs.Machine.{point-set, point-beyond, point-divided}
 use borrow.Author.Needs.{needs}
 use Rattle.set_point.proofs.find.Statement.{statement}

@@ -4,7 +4,7 @@ use mathlib.Core.Logic.{⊎-elim}
 use mir.Syntax.{w64}
 use mir.ValLaws.{toZ-ofZ}
 use Rattle.integers.specs.Range.{near}
-use Rattle.set_point.specs.SetPoint.{factorAllowed, allowed}
+use Rattle.set_point_rules.specs.SetPoint.{factorAllowed, allowed}
 use Rattle.set_point.specs.Machine.{conj-second, conj-first}
 use borrow.Author.Needs.{needs}
 use Rattle.set_point.proofs.is_allowed.Statement.{statement}

@@ -1,5 +1,5 @@
 use mathlib.Core.Path.{sym, _∙_}
-use Rattle.answers.specs.Stages.{stop, go-on}
+use Rattle.answer_rules.specs.Stages.{stop, go-on}
 use Rattle.sheet_rules.specs.Fits.{limits-fields}
 use Rattle.sheet.specs.Whole.{contentsCheck}
 use borrow.Author.Needs.{needs}

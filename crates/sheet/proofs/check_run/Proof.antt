@@ -1,7 +1,7 @@
 use mathlib.Core.Path.{sym, ap, _∙_}
 use native.Mathlib.Omega.{arith}
-use Rattle.answers.specs.Stages.{stop, go-on}
-use Rattle.answers.specs.Run.{runChecks}
+use Rattle.answer_rules.specs.Stages.{stop, go-on}
+use Rattle.answer_rules.specs.Run.{runChecks}
 use Rattle.sheet_bytes.specs.declared.Shape.{Shape}
 use Rattle.sheet_rules.specs.Layout.{actionsOf}
 use Rattle.sheet_rules.specs.Shape.{header-end}

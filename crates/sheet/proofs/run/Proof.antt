@@ -1,7 +1,7 @@
 use mathlib.Core.Path.{sym, _∙_}
 use native.Mathlib.Omega.{arith}
 use lib.ListN.{length}
-use Rattle.answers.specs.Walk.{run-done, run-refused}
+use Rattle.answer_rules.specs.Walk.{run-done, run-refused}
 use Rattle.model.specs.Sheet.{sheetReading}
 use Rattle.sheet_rules.specs.Decode.{decode}
 use Rattle.sheet_rules.specs.Shape.{header-end}

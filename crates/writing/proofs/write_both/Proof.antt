@@ -3,7 +3,7 @@ use Prim.Native.Nat.{ℕ}
 use mathlib.Core.Path.{refl, ap, _∙_}
 use mathlib.Core.List.{List}
 use lib.ListN.{getD-replicate}
-use Rattle.answers.specs.Run.{overwrite}
+use Rattle.answer_rules.specs.Run.{overwrite}
 use Rattle.sheet_bytes.specs.Fields.{width-right}
 use Rattle.table_passes.specs.State.{counters-few}
 use Rattle.writing.specs.Written.{table-walkable, table-placed, table-bounded, table-chart, table-boxes}

@@ -4,9 +4,9 @@ use mathlib.Core.Bool.{true, false}
 use Prim.Native.Nat.{ℕ, _+_, _-_, _≤_, _<_}
 use native.Mathlib.Omega.{arith}
 use lib.ListN.{length}
-use Rattle.answers.specs.declared.Checked.the-variants.{Fine}
-use Rattle.answers.specs.Stages.{each, each-none, each-more, each-first, loop-end}
-use Rattle.answers.specs.Sequence.{actionCheck, action-good, action-bad}
+use Rattle.answer_rules.specs.declared.Checked.the-variants.{Fine}
+use Rattle.answer_rules.specs.Stages.{each, each-none, each-more, each-first, loop-end}
+use Rattle.answer_rules.specs.Sequence.{actionCheck, action-good, action-bad}
 use Rattle.answers.proofs.sequence.check_actions.Statement.{statement}
 use Rattle.answers.proofs.sequence.check_actions.Tie as tie
 

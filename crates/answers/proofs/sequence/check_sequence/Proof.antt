@@ -1,4 +1,4 @@
-use Rattle.answers.specs.Sequence.{sequence-long, sequence-wrong, sequence-short, sequence-good}
+use Rattle.answer_rules.specs.Sequence.{sequence-long, sequence-wrong, sequence-short, sequence-good}
 use borrow.Author.Needs.{needs}
 use Rattle.answers.proofs.sequence.check_sequence.Statement.{statement}
 use Rattle.answers.proofs.sequence.check_sequence.Tie as tie

@@ -2,9 +2,9 @@ use borrow.Author.Needs.{needs}
 use mathlib.Core.Path.{_≡_, sym}
 use Prim.Native.Nat.{_-_, _≤_}
 use native.Mathlib.Omega.{arith}
-use Rattle.answers.specs.declared.Checked.the-variants.{Fine}
-use Rattle.answers.specs.Stages.{each, each-none, each-more, each-first}
-use Rattle.answers.specs.Loops.{each-ended}
+use Rattle.answer_rules.specs.declared.Checked.the-variants.{Fine}
+use Rattle.answer_rules.specs.Stages.{each, each-none, each-more, each-first}
+use Rattle.answer_rules.specs.Loops.{each-ended}
 use Rattle.model.specs.Chart.{blocksOf}
 use Rattle.chart_bytes.specs.Classes.{entry}
 use Rattle.chart.specs.Check.{classCheck}

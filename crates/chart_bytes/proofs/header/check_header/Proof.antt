@@ -1,5 +1,5 @@
 use mathlib.Core.Path.{sym, _∙_}
-use Rattle.answers.specs.Stages.{andThen, passed, handed}
+use Rattle.answer_rules.specs.Stages.{andThen, passed, handed}
 use Rattle.chart_bytes.specs.Header.{countCheck, lengthCheck, headerCheck}
 use Rattle.chart_bytes.specs.HeaderLaws.{mark-passed, counts-passed}
 use borrow.Author.Needs.{needs}

@@ -3,10 +3,10 @@ use mathlib.Core.Path.{_≡_, _∙_}
 use Prim.Native.Nat.{ℕ, _-_, _≤_}
 use native.Mathlib.Omega.{arith}
 use mathlib.Core.List.{List}
-use Rattle.answers.specs.declared.Checked.{Checked}
-use Rattle.answers.specs.declared.Checked.the-variants.{Fine}
-use Rattle.answers.specs.Stages.{each, each-none}
-use Rattle.answers.specs.Loops.{each-passed, each-refused, each-ended}
+use Rattle.answer_rules.specs.declared.Checked.{Checked}
+use Rattle.answer_rules.specs.declared.Checked.the-variants.{Fine}
+use Rattle.answer_rules.specs.Stages.{each, each-none}
+use Rattle.answer_rules.specs.Loops.{each-passed, each-refused, each-ended}
 use Rattle.model.specs.Chart.{blocksOf, roundClass}
 use Rattle.chart_form.specs.Form.{barCheck}
 use Rattle.chart_form.specs.Bars.{bars-first}

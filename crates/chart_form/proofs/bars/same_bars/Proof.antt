@@ -5,7 +5,7 @@ use Prim.Native.Nat.{_-_, _≤_}
 use native.Mathlib.Omega.{arith}
 use borrow.Author.Tests.{not-true, not-false}
 use Rattle.systems.specs.Search.{all}
-use Rattle.answers.specs.Loops.{all-none, all-more, all-stop, all-ended}
+use Rattle.answer_rules.specs.Loops.{all-none, all-more, all-stop, all-ended}
 use Rattle.model.specs.Chart.{actionsOf, targetOf}
 use Rattle.chart_form.specs.Form.{sameBar, sameBars}
 use Rattle.chart_form.specs.Records.{bar-at}

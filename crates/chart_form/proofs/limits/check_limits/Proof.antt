@@ -2,9 +2,9 @@ use borrow.Author.Needs.{needs}
 use mathlib.Core.Path.{_≡_}
 use Prim.Native.Nat.{_-_, _≤_}
 use native.Mathlib.Omega.{arith}
-use Rattle.answers.specs.declared.Checked.the-variants.{Fine}
-use Rattle.answers.specs.Stages.{each, each-none}
-use Rattle.answers.specs.Loops.{each-passed, each-refused, each-ended}
+use Rattle.answer_rules.specs.declared.Checked.the-variants.{Fine}
+use Rattle.answer_rules.specs.Stages.{each, each-none}
+use Rattle.answer_rules.specs.Loops.{each-passed, each-refused, each-ended}
 use Rattle.model.specs.Chart.{blocksOf}
 use Rattle.chart_form.specs.Form.{fieldsCheck, limitsCheck}
 use Rattle.chart_form.proofs.limits.check_limits.Statement.{statement}

@@ -1,5 +1,5 @@
 use lib.Dec.{ltb}
-use Rattle.answers.specs.Stages.{stop, go-on, demand-at}
+use Rattle.answer_rules.specs.Stages.{stop, go-on, demand-at}
 use Rattle.chart_form.specs.Form.{fieldsCheck}
 use borrow.Author.Needs.{needs}
 use Rattle.chart_form.proofs.limits.check_record.Statement.{statement}

@@ -1,5 +1,5 @@
 use mathlib.Core.Path.{sym, _∙_}
-use Rattle.answers.specs.Stages.{each, passed, handed}
+use Rattle.answer_rules.specs.Stages.{each, passed, handed}
 use Rattle.model.specs.Chart.{actionsOf, nextIn}
 use Rattle.chart_form.specs.Form.{orderCheck, numberCheck}
 use borrow.Author.Needs.{needs}

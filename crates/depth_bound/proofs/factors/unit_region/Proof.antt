@@ -1,7 +1,7 @@
 use Prim.Native.Nat.{ℕ, _-_, _≤_, _<_}
 use native.Mathlib.Omega.{arith}
 use borrow.Author.Tests.{not-true, not-false}
-use Rattle.model.specs.DepthBound.{UnitMove}
+use Rattle.depth_rules.specs.DepthBound.{UnitMove}
 use Rattle.sheet_rules.specs.Decode.{moveAt}
 use Rattle.depth_bound.specs.Factors.{below-more, move-tells, region-not, region-unit}
 use Rattle.depth_bound.proofs.factors.unit_region.Statement.{statement}

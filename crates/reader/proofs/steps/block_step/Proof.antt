@@ -1,5 +1,5 @@
 use borrow.Author.Needs.{needs}
-use Rattle.reader.specs.Steps.{block-as}
+use Rattle.reader_rules.specs.Steps.{block-as}
 use Rattle.reader.proofs.steps.block_step.Statement.{statement}
 use Rattle.reader.proofs.steps.block_step.Tie as tie
 

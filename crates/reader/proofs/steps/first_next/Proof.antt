@@ -1,5 +1,5 @@
 use mathlib.Core.Path.{refl}
-use Rattle.reader.specs.Reading.{firstNext}
+use Rattle.reader_rules.specs.Reading.{firstNext}
 use borrow.Author.Needs.{needs}
 use Rattle.reader.proofs.steps.first_next.Statement.{statement}
 use Rattle.reader.proofs.steps.first_next.Tie as tie

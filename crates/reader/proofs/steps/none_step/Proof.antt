@@ -1,9 +1,9 @@
 use mathlib.Core.Path.{ap}
 use mathlib.Core.List.{List}
 use Prim.Native.Nat.{ℕ}
-use Rattle.reader.specs.declared.Handed.the-variants.{NoneLeft}
-use Rattle.reader.specs.Reading.{noneStep, noTargets}
-use Rattle.reader.specs.Steps.{eight-none}
+use Rattle.reader_rules.specs.declared.Handed.the-variants.{NoneLeft}
+use Rattle.reader_rules.specs.Reading.{noneStep, noTargets}
+use Rattle.reader_rules.specs.Steps.{eight-none}
 use Rattle.reader.proofs.steps.none_step.Statement.{statement}
 use Rattle.reader.proofs.steps.none_step.Tie as tie
 

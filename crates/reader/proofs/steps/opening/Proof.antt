@@ -1,4 +1,4 @@
-use Rattle.reader.specs.Steps.{opened-as}
+use Rattle.reader_rules.specs.Steps.{opened-as}
 use borrow.Author.Needs.{needs}
 use Rattle.reader.proofs.steps.opening.Statement.{statement}
 use Rattle.reader.proofs.steps.opening.Tie as tie

@@ -3,7 +3,7 @@ use Rattle.reader.proofs.steps.step_at.Statement.{statement}
 use Rattle.reader.proofs.steps.step_at.Tie as tie
 use mathlib.Core.Path.{sym, _∙_}
 use Rattle.chart_bytes.specs.HeaderLaws.{header-passed}
-use Rattle.reader.specs.Steps.{step-headless, step-block, step-past}
+use Rattle.reader_rules.specs.Steps.{step-headless, step-block, step-past}
 
 check-header-requires : tie.Need-check-header-requires
 check-header-requires c κs = search needs

@@ -5,8 +5,8 @@ use Prim.Native.Nat.{ℕ, _-_, _≤_}
 use native.Mathlib.Omega.{arith}
 use lib.ListN.{set}
 use Rattle.model.specs.Chart.{actionsOf, targetOf}
-use Rattle.reader.specs.Reading.{eightTargets, targetsOf}
-use Rattle.reader.specs.Steps.{eight-none, eight-more}
+use Rattle.reader_rules.specs.Reading.{eightTargets, targetsOf}
+use Rattle.reader_rules.specs.Steps.{eight-none, eight-more}
 use Rattle.reader.proofs.steps.targets_of.Statement.{statement}
 use Rattle.reader.proofs.steps.targets_of.Tie as tie
 

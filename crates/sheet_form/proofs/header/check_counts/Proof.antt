@@ -1,5 +1,5 @@
 use native.Mathlib.Omega.{arith}
-use Rattle.answers.specs.Stages.{stop, go-on, demand-by}
+use Rattle.answer_rules.specs.Stages.{stop, go-on, demand-by}
 use Rattle.sheet_rules.specs.Form.{checkCounts}
 use borrow.Author.Needs.{needs}
 use Rattle.sheet_form.proofs.header.check_counts.Statement.{statement}

@@ -1,6 +1,6 @@
 use mathlib.Core.Path.{ap, _∙_}
 use borrow.Author.Tests.{not-true, not-false}
-use Rattle.answers.specs.Stages.{demand-by}
+use Rattle.answer_rules.specs.Stages.{demand-by}
 use Rattle.sheet_rules.specs.Layout.{versionOf}
 use Rattle.sheet_rules.specs.Form.{from-to}
 use Rattle.sheet_form.specs.Header.{header-short, header-unmarked, header-marked}

@@ -2,7 +2,7 @@ use native.Mathlib.Omega.{arith}
 use mir.Syntax.{w64}
 use mir.Val.{SFits}
 use mir.ValLaws.{toZ-ofZ}
-use Rattle.answers.specs.Stages.{stop, go-on}
+use Rattle.answer_rules.specs.Stages.{stop, go-on}
 use Rattle.sheet_bytes.specs.Fields.{low-within, sheet-short}
 use Rattle.sheet_rules.specs.Form.{checkBound}
 use Rattle.sheet_form.specs.Limits.{low-stage, high-stage, order-stage}

@@ -1,4 +1,4 @@
-use Rattle.answers.specs.Stages.{stop, go-on}
+use Rattle.answer_rules.specs.Stages.{stop, go-on}
 use Rattle.sheet_rules.specs.Form.{checkLimits}
 use borrow.Author.Needs.{needs}
 use Rattle.sheet_form.proofs.limits.check_limits.Statement.{statement}

@@ -1,7 +1,7 @@
 use mathlib.Core.Path.{_∙_}
 use native.Mathlib.Omega.{arith}
 use lib.ListN.{length}
-use Rattle.answers.specs.Stages.{stop, go-on}
+use Rattle.answer_rules.specs.Stages.{stop, go-on}
 use Rattle.sheet_bytes.specs.Fields.{move-some}
 use Rattle.sheet_rules.specs.Form.{checkMove}
 use Rattle.sheet_form.specs.Limits.{move-zero, move-open}

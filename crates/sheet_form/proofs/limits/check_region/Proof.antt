@@ -1,5 +1,5 @@
 use lib.Dec.{ltb}
-use Rattle.answers.specs.Stages.{stop, go-on, demand-at}
+use Rattle.answer_rules.specs.Stages.{stop, go-on, demand-at}
 use Rattle.sheet_rules.specs.Form.{checkFields}
 use Rattle.sheet_form.specs.Limits.{checkMoves}
 use borrow.Author.Needs.{needs}

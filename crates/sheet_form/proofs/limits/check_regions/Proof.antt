@@ -2,8 +2,8 @@ use borrow.Author.Needs.{needs}
 use mathlib.Core.Path.{_≡_}
 use Prim.Native.Nat.{_≤_, _-_}
 use native.Mathlib.Omega.{arith}
-use Rattle.answers.specs.declared.Checked.the-variants.{Fine}
-use Rattle.answers.specs.Stages.{each, each-none, loop-stop, loop-more, loop-end}
+use Rattle.answer_rules.specs.declared.Checked.the-variants.{Fine}
+use Rattle.answer_rules.specs.Stages.{each, each-none, loop-stop, loop-more, loop-end}
 use Rattle.sheet_rules.specs.Layout.{regionsOf}
 use Rattle.sheet_rules.specs.Form.{checkFields}
 use Rattle.sheet_form.proofs.limits.check_regions.Statement.{statement}

@@ -1,7 +1,7 @@
 use mir.Syntax.{w64}
 use mir.Val.{SFits}
 use mir.ValLaws.{toZ-ofZ}
-use Rattle.answers.specs.Stages.{stop, go-on, demand-by}
+use Rattle.answer_rules.specs.Stages.{stop, go-on, demand-by}
 use Rattle.sheet_rules.specs.Form.{checkZeroRule}
 use Rattle.sheet_form.specs.Limits.{factor-read, offset-read}
 use borrow.Author.Needs.{needs}

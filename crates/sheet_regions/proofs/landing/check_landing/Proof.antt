@@ -2,8 +2,8 @@ use mathlib.Core.Path.{_≡_, refl}
 use Prim.Native.Nat.{_-_, _≤_, _<_}
 use native.Mathlib.Omega.{arith}
 use borrow.Author.Tests.{not-true, not-false}
-use Rattle.answers.specs.declared.Checked.the-variants.{Fine}
-use Rattle.answers.specs.Stages.{each, each-none, each-more}
+use Rattle.answer_rules.specs.declared.Checked.the-variants.{Fine}
+use Rattle.answer_rules.specs.Stages.{each, each-none, each-more}
 use Rattle.sheet_rules.specs.Layout.{regionsOf, actionsOf}
 use Rattle.sheet_rules.specs.Check.{checkLanding}
 use Rattle.sheet_regions.specs.Shares.{landings, lands-fine, lands-refused, landings-more, landings-all, landings-first}

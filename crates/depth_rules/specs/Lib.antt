@@ -1,0 +1,3 @@
+pub mod Composition
+pub mod Distinguishing
+pub mod DepthBound

@@ -1,0 +1,13 @@
+pub mod Exploration
+pub mod Counting
+pub mod Moore
+pub mod Beside
+pub mod Pigeonhole
+pub mod Places
+pub mod Explored
+pub mod LockStep
+pub mod Quotient
+pub mod FirstWords
+pub mod Pairs
+pub mod PairVisiting
+pub mod PairVerdict

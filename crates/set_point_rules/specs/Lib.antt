@@ -1,0 +1,3 @@
+pub mod Euclid
+pub mod SetPoint
+pub mod Theorems
