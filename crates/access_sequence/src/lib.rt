@@ -1,5 +1,7 @@
 // The way to a block: the shortest action sequence that leads from a sheet's start to a block of its chart (document 02, U1).
 // Public: no function asks anything of its caller, and each contract gives the answer as a definition does.
+#![tactic(auto)]
+
 ghost use Rattle.std.specs.Prelude.{◌≡◌, ◌≤◌, length};
 ghost use Rattle.exploration.specs.FirstWords.{NumberedAsNamed};
 ghost use Rattle.model.specs.Chart.{blocks_of, record_at, chart_system};

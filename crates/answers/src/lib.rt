@@ -1,5 +1,6 @@
 // The steps that checks and runs share: a stage of one test, the checks of an action sequence, the first barred action.
 // Public: no function asks anything of its caller, and each contract gives the answer as a definition does.
+#![tactic(auto)]
 
 ghost use Rattle.std.specs.Prelude.{◌≡◌};
 ghost use Rattle.answer_rules.specs.Stages.{demand};

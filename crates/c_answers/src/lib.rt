@@ -1,6 +1,8 @@
 // Answers as C sees them: an answer enum cannot cross to C, so it is told by the number that a function returns, 0 or that of the refusal, and by what is
 // stored through pointers.
 // Internal: serves sister crates; no function asks anything of its caller.
+#![tactic(auto)]
+
 ghost use Rattle.std.specs.Prelude.{◌≡◌};
 ghost use Rattle.c_answers.specs.Exports.{check_number, check_returned, run_number, run_returned, run_barred, depth_number, depth_returned, make_number, make_returned, way_number, way_returned, part_number, part_returned, part_equal, barred_index, rule_from, point_number, point_returned, point_old, point_remainder, solved_number, solved_returned};
 

@@ -1,5 +1,7 @@
 // Charts read from bytes: the check of the chart rules, the settling depth, and the run of an action sequence on a chart.
 // Public: no function asks anything of its caller, and each contract gives the answer as a definition does.
+#![tactic(auto)]
+
 ghost use Rattle.std.specs.Prelude.{◌≡◌, length};
 ghost use Rattle.answer_rules.specs.declared.Checked.TheVariants.{Fine};
 ghost use Rattle.chart_bytes.specs.Classes.{Holds};
@@ -20,7 +22,7 @@ mod classes;
 mod walk;
 
 // The settling depth of a chart: sequences of so many actions tell all its blocks apart, or the chart was refused.
-#[derive(Drop)]
+#[derive(Clone, Copy)]
 pub enum Settled {
     Done { depth: usize },
     Refused { number: u8, returned: usize },

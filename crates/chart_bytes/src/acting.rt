@@ -8,7 +8,7 @@ ghost use Rattle.chart_bytes.specs.Shape.{Shaped};
 use crate::fields::{label_of, target_of};
 
 // What one action does: the block where the walk is then, what is written, and whether the action was barred.
-#[derive(Drop)]
+#[derive(Clone, Copy)]
 pub struct Acted {
     pub block: usize,
     pub entry: u16,

@@ -1,5 +1,7 @@
 // The bytes of a chart (document 01, "The chart, mark BCH"): its header, its fields, one action.
 // Internal: serves sister crates; a function may ask what its callers have made sure of.
+#![tactic(auto)]
+
 pub mod acting;
 pub mod fields;
 pub mod header;

@@ -1,4 +1,6 @@
 // Walks a chart by the reader: reads the chart from standard input and writes a line for each block that is handed out, or the refusal.
+#![tactic(auto)]
+
 use answers::Checked;
 use libc::STDIN_FILENO;
 use reader::{Handed, block_of, opening_of};

@@ -1,5 +1,7 @@
 // Rounds of refinement on the block numbers of a chart. A table of 255 bytes holds for each block the least block of its class.
 // Internal: serves sister crates; a function may ask what its callers have made sure of.
+#![tactic(auto)]
+
 ghost use Rattle.std.specs.Prelude.{◌≡◌, true, false, ℕ, ◌≤◌, ◌<◌, length, get_or};
 ghost use Rattle.systems.specs.Search.{least};
 ghost use Rattle.model.specs.Chart.{blocks_of, same_target, refines, round_class};

@@ -1,5 +1,7 @@
 // Making a sheet's chart and box list (document 01, "The chart, mark BCH, and its box list").
 // Public: no function asks anything of its caller, and each contract gives the answer as a definition does.
+#![tactic(auto)]
+
 ghost use Rattle.std.specs.Prelude.{◌≡◌, ◌+◌, ◌*◌, ◌≤◌, length};
 ghost use Rattle.model.specs.Blocks.{chart_of, box_list_of};
 ghost use Rattle.sheet_rules.specs.Layout.{bound_size};

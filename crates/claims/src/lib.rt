@@ -1,12 +1,14 @@
 // Two makings of charts, and what is claimed of them (demands 2 and 3). The statements stand in making_rules, specs/Claims.antt.
 // Public: no function asks anything of its caller, and each contract gives the answer as a definition does.
+#![tactic(auto)]
+
 ghost use Rattle.std.specs.Prelude.{◌≡◌};
 ghost use Rattle.making_rules.specs.Claims.{Demand2, Demand3, made, chart_left, list_left};
 
 use charting::{Made, make};
 
 // The answers of two makings.
-#[derive(Drop)]
+#[derive(Clone, Copy)]
 pub struct TwoMade {
     pub first: Made,
     pub second: Made,

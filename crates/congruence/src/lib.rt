@@ -1,5 +1,7 @@
 // Counters that go round: how often to use each increment, modulo m, to come from a start to a wanted value (document 02, U13).
 // Public: no function asks anything of its caller, and each contract gives the answer as a definition does.
+#![tactic(auto)]
+
 ghost use Rattle.std.specs.Prelude.{◌≡◌, ℕ, ◌+◌, ◌-◌, ◌%◌, ◌≤◌, ◌<◌, length, get_or};
 ghost use Rattle.std.specs.Int.{◌∣◌};
 ghost use Rattle.congruence_rules.specs.Congruence.{all_below, allowed, divisor, eight, go_round, counts_left};
@@ -10,7 +12,7 @@ ghost use Rattle.congruence.specs.Tails.{Tails};
 pub use congruence_rules::Solved;
 
 // The greatest common divisor of two numbers, and a factor with which the second is equal to it modulo the first (Bezout's identity).
-#[derive(Drop)]
+#[derive(Clone, Copy)]
 struct Bezout {
     divisor: u64,
     factor: u64,

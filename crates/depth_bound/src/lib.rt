@@ -1,6 +1,8 @@
 // The depth at which the boxes of a sheet are exact, from the sheet's bytes: how often a number can be doubled in its ranges, and the depth
 // for a number of classes.
 // Internal: serves sister crates; a function may ask what its callers have made sure of.
+#![tactic(auto)]
+
 ghost use Rattle.std.specs.Prelude.{◌≡◌, ◌≤◌};
 ghost use Rattle.model.specs.Sheet.{WellFormed};
 ghost use Rattle.depth_rules.specs.DepthBound.{Doublings};

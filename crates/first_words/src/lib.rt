@@ -1,6 +1,8 @@
 // The first word of a block of a chart, along the tree of first namings: the shortest action sequence that leads from block 0 to it, and of several the first
 // in dictionary order.
 // Internal: serves sister crates; a function may ask what its callers have made sure of.
+#![tactic(auto)]
+
 ghost use Rattle.std.specs.Prelude.{◌+◌, ◌<◌, ◌≤◌, length};
 ghost use Rattle.exploration.specs.FirstWords.{NumberedAsNamed};
 ghost use Rattle.model.specs.Chart.{blocks_of, chart_system};

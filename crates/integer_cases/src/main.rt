@@ -1,4 +1,6 @@
 // Runs the integer layer at the cases of document 01 and at extremes. Its output is stored.
+#![tactic(auto)]
+
 ghost use Rattle.std.specs.Prelude.{◌≡◌, ◌≤◌, pos};
 ghost use Rattle.integers.specs.Range.{Within, RangeWithin};
 

@@ -1,4 +1,6 @@
 // The listing program: reads a sheet from standard input and writes its chart, a line for each block, or the refusal.
+#![tactic(auto)]
+
 ghost use Rattle.std.specs.Prelude.{◌<◌, ◌≤◌};
 
 use charting::Made;
@@ -78,7 +80,7 @@ fn put_targets(chart: &[u8], at: usize, actions: usize)
 }
 
 // How long the records of a chart and of its box list are: numbers of counters and actions, and how many bytes a bound takes.
-#[derive(Drop)]
+#[derive(Clone, Copy)]
 struct Sizes {
     counters: usize,
     actions: usize,

@@ -1,5 +1,7 @@
 // Two logs of the same run laid beside each other: the first index where they differ, and what is left of the longer (document 02, U11).
 // Public: no function asks anything of its caller, and each contract gives the answer as a definition does.
+#![tactic(auto)]
+
 ghost use Rattle.std.specs.Prelude.{◌≡◌, ◌≤◌, min, length};
 ghost use Rattle.log_rules.specs.Compare.{first_difference, rest_of, lent, lent_from, part_of};
 

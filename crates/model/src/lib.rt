@@ -1,8 +1,9 @@
 // What a sheet and a chart mean: the definitions and theorems stand in specs/.
 // Internal: serves sister crates; a function may ask what its callers have made sure of.
+#![tactic(auto)]
 
 // A rule for one counter: the new value is the offset, or factor * the old value of the source counter + offset.
-#[derive(Drop)]
+#[derive(Clone, Copy)]
 pub enum Rule {
     Set {
         offset: i64,

@@ -1,6 +1,8 @@
 // Words that are noted as a tree: each entry but the first has a parent that stands before it, and an action; its word is the parent's word and then the
 // action.
 // Internal: serves sister crates; a function may ask what its callers have made sure of.
+#![tactic(auto)]
+
 ghost use Rattle.std.specs.Prelude.{◌≡◌, List, ℕ, ◌<◌, ◌≤◌, length};
 ghost use Rattle.answer_rules.specs.Run.{overwrite};
 ghost use Rattle.noted_words.specs.Words.{Falling, noted_word};

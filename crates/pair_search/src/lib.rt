@@ -2,6 +2,8 @@
 // Pair k of the queue is block lefts[k] of the first chart and block rights[k] of the second, with the word of entry k of a tree of words (parents and
 // actions). The classes have a number for each block, those of the second chart behind those of the first.
 // Internal: serves sister crates; a function may ask what its callers have made sure of.
+#![tactic(auto)]
+
 ghost use Rattle.pair_search.specs.Queue.{Comparable, Room, Rooms, Queue};
 ghost use Rattle.pair_search.specs.Progress.{Finds};
 
@@ -13,7 +15,7 @@ mod classes;
 mod visiting;
 
 // How far a search has come: the entry whose word is the first that separates the charts; or how many pairs are queued, and nothing separates them so far.
-#[derive(Drop)]
+#[derive(Clone, Copy)]
 pub enum Progress {
     Parted { last: usize },
     Queued { size: usize },

@@ -11,7 +11,7 @@ use chart_bytes::acting::act;
 use chart_bytes::fields::{actions_of, blocks_of};
 
 // What an action of a pair of blocks does: it writes different entries on the two charts; nothing new; or it leads to blocks of different classes.
-#[derive(Drop)]
+#[derive(Clone, Copy)]
 pub(crate) enum Compared {
     Apart,
     Together,

@@ -2,6 +2,8 @@
 // the refusal's number, and stores through `returned` what document 01's table says is returned. A slice passes as a pointer, then a length; one
 // that is handed back is stored as such a pair.
 // Public: no function asks anything of its caller, and each contract gives the answer as a definition does.
+#![tactic(auto)]
+
 ghost use Rattle.std.specs.Prelude.{◌≡◌, length};
 ghost use Rattle.model.specs.Blocks.{chart_of, box_list_of};
 ghost use Rattle.sheet_rules.specs.Layout.{bound_size};

@@ -1,6 +1,8 @@
 // A chart reader (document 01): it stands over the caller's chart bytes and hands out the blocks one after another, then says that
 // none is left. The functions over the struct are thin: each takes it apart and calls a function on the slice and the number.
 // Public: no function asks anything of its caller, and each contract gives the answer as a definition does.
+#![tactic(auto)]
+
 ghost use Rattle.std.specs.Prelude.{◌≡◌};
 ghost use Rattle.chart.specs.Check.{chart_check};
 ghost use Rattle.reader_rules.specs.Reading.{step_at, first_next};
@@ -14,14 +16,14 @@ mod steps;
 pub use steps::opening as opening_of;
 
 // The caller's chart bytes, and the number of the next block.
-#[derive(Drop)]
+#[derive(Clone, Copy)]
 pub struct Reader<'a> {
     pub chart: &'a [u8],
     pub next: usize,
 }
 
 // What opening gives: a reader over the very bytes, or the refusal of the chart's check, beside a reader that has nothing to hand out.
-#[derive(Drop)]
+#[derive(Clone, Copy)]
 pub struct Opened<'a> {
     pub answer: Checked,
     pub reader: Reader<'a>,

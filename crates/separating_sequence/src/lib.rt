@@ -1,5 +1,7 @@
 // Where two charts part: the shortest action sequence whose readings on two charts differ, or that there is none (document 02, U2).
 // Public: no function asks anything of its caller, and each contract gives the answer as a definition does.
+#![tactic(auto)]
+
 ghost use Rattle.std.specs.Prelude.{◌≡◌, ◌≤◌, length};
 ghost use Rattle.answer_rules.specs.declared.Checked.TheVariants.{Fine};
 ghost use Rattle.pair_search.specs.Queue.{Comparable};

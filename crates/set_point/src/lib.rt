@@ -1,5 +1,7 @@
 // The set-point of a rule: which old value brings a counter to, or just below, a wanted value, and how far below (document 02, U8).
 // Public: no function asks anything of its caller, and each contract gives the answer as a definition does.
+#![tactic(auto)]
+
 ghost use Rattle.std.specs.Prelude.{◌≡◌, pos, ◌-ℤ◌};
 ghost use Rattle.integers.specs.Range.{Within};
 ghost use Rattle.set_point_rules.specs.Euclid.{quotient};

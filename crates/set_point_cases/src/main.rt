@@ -1,5 +1,7 @@
 // Asks for set-points of rules with any source, be it a counter that no sheet has: it plays no part. C's function takes no source, so all other
 // cases stand in tests/library. Its output is stored.
+#![tactic(auto)]
+
 use model::Rule;
 use set_point::SetPoint;
 use text::{put, put_signed};

@@ -1,5 +1,7 @@
 // Sheets as bytes (document 01, "The sheet, mark MSH"): checking one, and running an action sequence on it.
 // Public: no function asks anything of its caller, and each contract gives the answer as a definition does.
+#![tactic(auto)]
+
 ghost use Rattle.std.specs.Prelude.{◌≡◌, length};
 ghost use Rattle.sheet_bytes.specs.Three.{Read};
 ghost use Rattle.sheet_rules.specs.Check.{sheet_check};

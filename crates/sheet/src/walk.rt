@@ -15,7 +15,7 @@ use sheet_bytes::space::{land, region_of};
 use sheet_bytes::{Config, Move, Shape};
 
 // What one action does: where the walk is then and in which region, what is written, and whether the action was barred.
-#[derive(Drop)]
+#[derive(Clone, Copy)]
 pub(crate) struct Acted {
     pub config: Config,
     pub region: usize,

@@ -1,6 +1,8 @@
 // The bytes of a sheet of either version (document 01, "The sheet, mark MSH"; document 02, U4), read into structs of three counters; and what
 // is done with these: membership, landing a configuration, cutting a box.
 // Internal: serves sister crates; a function may ask what its callers have made sure of.
+#![tactic(auto)]
+
 use integers::Range;
 use model::Rule;
 
@@ -9,7 +11,7 @@ pub mod fields;
 pub mod space;
 
 // What decides where the fields of a sheet stand: the three counts V, A and R, and how many bytes a bound takes.
-#[derive(Drop)]
+#[derive(Clone, Copy)]
 pub struct Shape {
     pub counters: usize,
     pub actions: usize,
@@ -18,7 +20,7 @@ pub struct Shape {
 }
 
 // A range for each counter. One that the sheet lacks has 0..0.
-#[derive(Drop)]
+#[derive(Clone, Copy)]
 pub struct Ranges {
     pub first: Range,
     pub second: Range,
@@ -26,14 +28,14 @@ pub struct Ranges {
 }
 
 // The box of a region: its state, and a range for each counter.
-#[derive(Drop)]
+#[derive(Clone, Copy)]
 pub struct RegionBox {
     pub state: u8,
     pub ranges: Ranges,
 }
 
 // A value for each counter. One that the sheet lacks has 0.
-#[derive(Drop)]
+#[derive(Clone, Copy)]
 pub struct Values {
     pub first: i64,
     pub second: i64,
@@ -41,21 +43,21 @@ pub struct Values {
 }
 
 // A configuration: a state, and a value for each counter.
-#[derive(Drop)]
+#[derive(Clone, Copy)]
 pub struct Config {
     pub state: u8,
     pub values: Values,
 }
 
 // In each region each action is barred, or open.
-#[derive(Drop)]
+#[derive(Clone, Copy)]
 pub enum Move {
     Barred,
     Open,
 }
 
 // A rule for each counter. One that the sheet lacks is set to 0.
-#[derive(Drop)]
+#[derive(Clone, Copy)]
 pub struct Rules {
     pub first: Rule,
     pub second: Rule,
@@ -63,7 +65,7 @@ pub struct Rules {
 }
 
 // What an action does in a region. Of a barred move, kind alone means anything.
-#[derive(Drop)]
+#[derive(Clone, Copy)]
 pub struct RegionMove {
     pub kind: Move,
     pub target: u8,

@@ -1,10 +1,12 @@
 // One pass of the refinement over the rows of its table: an action of a row, the turn of a row, and the turns of all rows that have a flag up.
 // Internal: serves sister crates; a function may ask what its callers have made sure of.
+#![tactic(auto)]
+
 pub mod steps;
 pub mod sweep;
 
 // What the refinement answers: there are more than 255 blocks, or the table is done with so many rows.
-#[derive(Drop)]
+#[derive(Clone, Copy)]
 pub enum Refined {
     TooMany,
     Done(usize),

@@ -1,5 +1,7 @@
 // Text on standard output, for the programs. What a program writes is tested, not proved.
 // Internal: serves sister crates; a function may ask what its callers have made sure of.
+#![tactic(auto)]
+
 use answers::Checked;
 use libc::STDOUT_FILENO;
 

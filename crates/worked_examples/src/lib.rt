@@ -1,2 +1,3 @@
 // The worked examples P1 to P9 of document 01 on the definitions: one table and one proof, in specs/.
 // Internal: serves sister crates; a function may ask what its callers have made sure of.
+#![tactic(auto)]

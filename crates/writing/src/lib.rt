@@ -1,5 +1,7 @@
 // From the table of a finished refinement to the bytes of chart and box list: the blocks in the chart's order, then their records.
 // Internal: serves sister crates; a function may ask what its callers have made sure of.
+#![tactic(auto)]
+
 ghost use Rattle.std.specs.Prelude.{◌≡◌, ◌+◌, ◌*◌, ◌≤◌, length};
 ghost use Rattle.answer_rules.specs.Run.{overwrite};
 ghost use Rattle.model.specs.Blocks.{chart_of, box_list_of};
