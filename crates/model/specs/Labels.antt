@@ -28,5 +28,5 @@ unfolding chart_system
 chart_plain c R i = go (dec_lt i (blocks_of c))
   where
     go : Dec (i < blocks_of c) → label_of c i < 65535
-    go (yes h) = R.Labels-right i h
+    go (yes h) = R.labels_right i h
     go (no h) = omega (arith, label_past c i R.length_right (omega arith))

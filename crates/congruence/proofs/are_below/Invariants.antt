@@ -1,0 +1,12 @@
+use Prim.Native.Nat.{ℕ, ◌-◌, ◌≤◌, ◌<◌}
+use native.Mathlib.Omega.{arith}
+use lib.ListN.{length, get_or}
+use Rattle.systems.specs.Laws.{below_next}
+use Rattle.congruence.specs.Machine.{below_stopped, below_passed}
+use Rattle.congruence.proofs.are_below.Given as goal
+
+abbrev pub invariant-loop-at : goal.invariant-loop-at
+invariant-loop-at l = (l.at ≤ length l.numbers) × ((k : ℕ) → k < l.at → get_or l.numbers k 0 < l.modulus)
+
+abbrev pub decreases-loop-at : goal.decreases-loop-at
+decreases-loop-at l = length l.numbers - l.at
