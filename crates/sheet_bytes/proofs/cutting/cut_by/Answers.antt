@@ -14,7 +14,7 @@ inverse_range-requires c =
     record {
       fact = simp (to_z-of_z w64) f;
       within = simp (to_z-of_z w64) o;
-      range_within = simp (to_z-of_z w64) c.requires.range_within;
+      range_within = c.requires.range_within;
     }
 
 pub returns-then-has : goal.returns-then-has

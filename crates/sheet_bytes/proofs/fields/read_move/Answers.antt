@@ -4,6 +4,7 @@ use mathlib.Core.Path.{◌∙◌}
 use Rattle.sheet_rules.specs.Layout.{kind_of}
 use lib.ListN.{length}
 use Rattle.sheet_bytes.specs.Fields.{move_some, move_made, kind_barred, kind_open}
+use Rattle.sheet_bytes.proofs.fields.read_move.Goals.{else-part-eq0, then-part-eq0}
 use Rattle.sheet_bytes.proofs.fields.read_move.Goals as goal
 
 pub bounds-part-0 : goal.bounds-part-0
@@ -20,5 +21,5 @@ returns c =
     let z = c.rule_or_zero-3 in
     let part = c.args.part.now in
     move_made c.args.counters part kind.kind x.result y.result z.result
-    (⊎_elim (λ w. w.1 ∙ kind_barred (kind_of part) w.0.taken) (λ w. w.1 ∙ kind_open (kind_of part) w.0.left) kind.branch)
+    (elim kind.branch [ then-part-eq0 w ↦ w.kind-is ∙ kind_barred (kind_of part) w.if-part-eq0.true | else-part-eq0 w ↦ w.kind-is ∙ kind_open (kind_of part) w.if-part-eq0.false ])
     x.ensures y.ensures z.ensures

@@ -12,7 +12,6 @@ pick-requires c = (carry_parts c.args.rule c.in-Carry.source c.in-Carry.factor c
 
 pub overflow_mul-result : goal.overflow_mul-result
 overflow_mul-result c =
-    let told = c.known_told-in-Carry-1.given in
     let ff : SFits w64 c.in-Carry.factor = search rules in
     let fb : SFits w64 c.in-Carry.offset = search rules in
     let fz : SFits w64 c.pick.result = search rules in
@@ -22,7 +21,6 @@ overflow_mul-result c =
 
 pub overflow_add-result : goal.overflow_add-result
 overflow_add-result c =
-    let told = c.known_told-in-Carry-1.given in
     let ff : SFits w64 c.in-Carry.factor = search rules in
     let fb : SFits w64 c.in-Carry.offset = search rules in
     let fz : SFits w64 c.pick.result = search rules in
@@ -38,7 +36,6 @@ returns-in-Set c =
 
 pub returns-in-Carry : goal.returns-in-Carry
 returns-in-Carry c =
-    let told = c.known_told-in-Carry-1.given in
     let ff : SFits w64 c.in-Carry.factor = search rules in
     let fb : SFits w64 c.in-Carry.offset = search rules in
     let fz : SFits w64 c.pick.result = search rules in
