@@ -1,0 +1,18 @@
+use mathlib.Core.Path.{◌≡◌, ◌∙◌}
+use Prim.Native.Nat.{ℕ, ◌-◌, ◌≤◌}
+use native.Mathlib.Omega.{arith}
+use mathlib.Core.List.{List}
+use Rattle.answer_rules.specs.declared.Checked.{Checked}
+use Rattle.answer_rules.specs.declared.Checked.TheVariants.{Fine}
+use Rattle.answer_rules.specs.Stages.{each, each_none}
+use Rattle.answer_rules.specs.Loops.{each_passed, each_refused, each_ended}
+use Rattle.model.specs.Chart.{blocks_of, round_class}
+use Rattle.chart_form.specs.Form.{bar_check}
+use Rattle.chart_form.specs.Bars.{bars_first}
+use Rattle.chart_form.proofs.bars.check_bars.Given as goal
+
+abbrev pub invariant-loop-j : goal.invariant-loop-j
+invariant-loop-j l = (l.j ≤ l.j-end) × (each (later l.c) l.j ≡ Fine)
+
+abbrev pub decreases-loop-j : goal.decreases-loop-j
+decreases-loop-j l = l.j-end - l.j

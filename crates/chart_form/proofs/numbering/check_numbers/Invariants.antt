@@ -1,0 +1,16 @@
+use mathlib.Core.Path.{◌≡◌, ap, ◌∙◌}
+use Prim.Native.Nat.{◌-◌, ◌≤◌}
+use native.Mathlib.Omega.{arith}
+use Rattle.answer_rules.specs.declared.Checked.TheVariants.{Fine}
+use Rattle.answer_rules.specs.Stages.{each, each_none}
+use Rattle.answer_rules.specs.Loops.{each_passed, each_refused, each_ended}
+use Rattle.model.specs.Chart.{blocks_of, next_unnamed}
+use Rattle.chart_form.specs.Form.{number_check, numbers_check}
+use Rattle.chart_form.specs.Records.{unnamed_none, unnamed_more}
+use Rattle.chart_form.proofs.numbering.check_numbers.Given as goal
+
+abbrev pub invariant-loop-i : goal.invariant-loop-i
+invariant-loop-i l = (l.i ≤ l.i-end) × (l.next ≡ next_unnamed l.c l.i) × (l.next ≤ 255) × (each (λ i. number_check l.c i (next_unnamed l.c i)) l.i ≡ Fine)
+
+abbrev pub decreases-loop-i : goal.decreases-loop-i
+decreases-loop-i l = l.i-end - l.i

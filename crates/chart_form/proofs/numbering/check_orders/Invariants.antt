@@ -1,0 +1,17 @@
+use mathlib.Core.Path.{◌≡◌, ap, ◌∙◌}
+use Prim.Native.Nat.{◌-◌, ◌≤◌}
+use native.Mathlib.Omega.{arith}
+use Rattle.answer_rules.specs.declared.Checked.TheVariants.{Fine}
+use Rattle.answer_rules.specs.Stages.{each, each_none}
+use Rattle.answer_rules.specs.Loops.{each_passed, each_refused, each_ended}
+use Rattle.model.specs.Chart.{actions_of, next_in}
+use Rattle.chart_form.specs.Form.{order_check}
+use Rattle.chart_form.specs.Records.{next_none, next_more}
+use Rattle.chart_form.proofs.numbering.check_orders.Given as goal
+
+abbrev pub invariant-loop-a : goal.invariant-loop-a
+invariant-loop-a l =
+    (l.a ≤ l.a-end) × (l.next ≡ next_in l.c l.i l.before l.a) × (l.next ≤ 255) × (each (λ a. order_check l.c l.i a (next_in l.c l.i l.before a)) l.a ≡ Fine)
+
+abbrev pub decreases-loop-a : goal.decreases-loop-a
+decreases-loop-a l = l.a-end - l.a

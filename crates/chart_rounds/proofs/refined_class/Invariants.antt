@@ -1,0 +1,14 @@
+use mathlib.Core.Path.{◌≡◌, sym, ◌∙◌}
+use mathlib.Core.Bool.{false}
+use Prim.Native.Nat.{ℕ, ◌-◌, ◌≤◌, ◌<◌}
+use native.Mathlib.Omega.{arith}
+use Rattle.systems.specs.Laws.{below_next}
+use Rattle.model.specs.Chart.{refines}
+use Rattle.chart_bytes.specs.Classes.{entry, class_found, refines_refl, class_below}
+use Rattle.chart_rounds.proofs.refined_class.Given as goal
+
+abbrev pub invariant-loop-j : goal.invariant-loop-j
+invariant-loop-j l = (l.j ≤ l.i) × ((k : ℕ) → k < l.j → refines l.c (entry l.f) l.i k ≡ false)
+
+abbrev pub decreases-loop-j : goal.decreases-loop-j
+decreases-loop-j l = l.i - l.j
