@@ -423,7 +423,7 @@ few {m} {u} v rules [] {xs} {ys} (each_more p e) (close_more c d) q =
     omega (arith, two-pow-succ m)
 few {m} {u} v rules (next ∷ moves) {xs} {ys} (each_more p e) (close_more c d) q =
     let s = stepped (followed (next ∷ moves) v) rules xs ys p q in
-    let i = few v next moves e d s.reads in
+    let i = few {u = s.source} v next moves e d s.reads in
     let D = distance (get_or xs u (pos 0)) (get_or ys u (pos 0)) in
     let G = 2 ^ greats (next ∷ moves) v in
     let w = ap (λ (z : ℕ). z * G) s.after in

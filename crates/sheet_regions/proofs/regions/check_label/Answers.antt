@@ -1,0 +1,7 @@
+use Rattle.sheet_rules.specs.Check.{check_label}
+use Rattle.sheet_regions.specs.Regions.{seen_stage}
+use Rattle.sheet_regions.proofs.regions.check_label.Goals as goal
+
+pub returns : goal.returns
+unfolding check_label
+returns c = seen_stage 5 c.demanded.ensures c.label_seen-seen.ensures c.region_place.ensures

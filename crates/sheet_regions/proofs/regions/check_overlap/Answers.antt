@@ -1,0 +1,7 @@
+use Rattle.sheet_rules.specs.Check.{check_overlap}
+use Rattle.sheet_regions.specs.Regions.{seen_stage}
+use Rattle.sheet_regions.proofs.regions.check_overlap.Goals as goal
+
+pub returns : goal.returns
+unfolding check_overlap
+returns c = seen_stage 6 c.demanded.ensures c.region_seen-seen.ensures c.region_place.ensures
