@@ -53,7 +53,7 @@ returns-after-outer c =
     let s = c.args.s.now in
     let outer = c.outer in
     let e : outer.i ≡ regions_of s = omega (arith, outer.invariant.0, c.outer-test.false, c.requires.read.regions_are) in
-    landings_all s outer.i (regions_of s) outer.answer outer.invariant.1.1 e outer.invariant.1.0
+    landings_all s outer.i (regions_of s) outer.answer-1 outer.invariant.1.1 e outer.invariant.1.0
 
 pub returns-then-not-lands_all : goal.returns-then-not-lands_all
 returns-then-not-lands_all c =

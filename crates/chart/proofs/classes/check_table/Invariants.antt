@@ -1,0 +1,17 @@
+use mathlib.Core.Path.{◌≡◌, sym}
+use Prim.Native.Nat.{◌-◌, ◌≤◌}
+use native.Mathlib.Omega.{arith}
+use Rattle.answer_rules.specs.declared.Checked.TheVariants.{Fine}
+use Rattle.answer_rules.specs.Stages.{each, each_none, each_more, each_first}
+use Rattle.answer_rules.specs.Loops.{each_ended}
+use Rattle.model.specs.Chart.{blocks_of}
+use Rattle.chart_bytes.specs.Classes.{entry}
+use Rattle.chart.specs.Check.{class_check}
+use Rattle.chart.specs.Apart.{class_own, class_shared}
+use Rattle.chart.proofs.classes.check_table.Given as goal
+
+abbrev pub invariant-loop-j : goal.invariant-loop-j
+invariant-loop-j l = (l.j ≤ l.j-end) × (each (class_check l.c (entry l.f)) l.j ≡ Fine)
+
+abbrev pub decreases-loop-j : goal.decreases-loop-j
+decreases-loop-j l = l.j-end - l.j

@@ -1,0 +1,14 @@
+use native.Mathlib.Omega.{arith}
+use Prim.Native.Nat.{◌+◌, ◌-◌, ◌≤◌}
+use mathlib.Core.Path.{subst, ◌∙◌}
+use mathlib.Core.Logic.{⊎_elim}
+use lib.ListN.{get_or}
+use Rattle.table_rules.specs.Marks.{raised_by, raised_up, raised_left, StoredFrom, stored_none, stored_more}
+use Rattle.table_rows.proofs.marks.raise_at.Given as goal
+
+abbrev pub invariant-loop-k : goal.invariant-loop-k
+invariant-loop-k l =
+    (l.k ≤ l.n) × StoredFrom (λ j. raised_by (get_or l.targets (l.at + j) 0) l.i (get_or l.initial.flags (l.at + j) 0)) l.initial.flags l.flags l.at l.k
+
+abbrev pub decreases-loop-k : goal.decreases-loop-k
+decreases-loop-k l = l.n - l.k
