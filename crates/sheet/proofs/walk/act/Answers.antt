@@ -22,9 +22,9 @@ land-config-requires c =
 
 pub label_at-requires : goal.label_at-requires
 label_at-requires c =
-    let k = at_land c.args.s.now (λ j. (c.type_inv.s c.region_of-region).ranges) c.requires.s_value c.args.x c.args.i c.args.action c.requires.at c.requires.action_bound c.move_at-m.result c.move_at-m.ensures c.land-config.result c.region_of-region.result c.in-Open.is c.land-config.ensures (number_read c.requires.read c.land-config.result c.region_of-region.result c.region_of-region.ensures) in
+    let k = at_land c.args.s.now (λ j. (c.type_inv.s j).fits) c.requires.s_value c.args.x c.args.i c.args.action c.requires.at c.requires.action_bound c.move_at-m.result c.move_at-m.ensures c.land-config.result c.region_of-region.result c.in-Open.is c.land-config.ensures (number_read c.requires.read c.land-config.result c.region_of-region.result c.region_of-region.ensures) in
     record { read = c.requires.read; i_lt_regions = omega (arith, k.there, c.requires.read.regions_are) }
 
 pub returns : goal.returns
 returns c =
-    acts_open c.args.s.now (λ j. (c.type_inv.s c.region_of-region).ranges) c.requires.s_value c.args.x c.args.i c.args.action c.requires.at c.requires.action_bound c.move_at-m.result c.move_at-m.ensures c.land-config.result c.region_of-region.result c.label_at.result c.in-Open.is c.land-config.ensures (number_read c.requires.read c.land-config.result c.region_of-region.result c.region_of-region.ensures) c.label_at.ensures
+    acts_open c.args.s.now (λ j. (c.type_inv.s j).fits) c.requires.s_value c.args.x c.args.i c.args.action c.requires.at c.requires.action_bound c.move_at-m.result c.move_at-m.ensures c.land-config.result c.region_of-region.result c.label_at.result c.in-Open.is c.land-config.ensures (number_read c.requires.read c.land-config.result c.region_of-region.result c.region_of-region.ensures) c.label_at.ensures

@@ -1,0 +1,13 @@
+use native.Mathlib.Omega.{arith}
+use mathlib.Core.Path.{sym, ◌∙◌}
+use mathlib.Core.Logic.{⊎_elim}
+use Rattle.table_passes.specs.State.{counters_few, actions_few}
+use Rattle.table_passes.specs.Steps.{measure_in, stable_many, stable_now}
+use Rattle.table_passes.specs.Passes.{Sweeping, sweeping_first, sweeping_exact, sweeping_sure, sweeping_many, sweeping_less, sweeping_on}
+use Rattle.minimize.proofs.table.stabilize.Given as goal
+
+abbrev pub invariant-loop-n : goal.invariant-loop-n
+invariant-loop-n l = Sweeping l.s l.shape l.cells l.homes l.targets l.flags l.bounds l.n l.m l.depth l.before
+
+abbrev pub decreases-loop-n : goal.decreases-loop-n
+decreases-loop-n l = measure_in l.shape l.cells l.homes l.flags l.n
