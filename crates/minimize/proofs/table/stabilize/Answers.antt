@@ -4,7 +4,7 @@ use mathlib.Core.Logic.{⊎_elim}
 use Rattle.table_passes.specs.State.{counters_few, actions_few}
 use Rattle.table_passes.specs.Steps.{measure_in, stable_many, stable_now}
 use Rattle.table_passes.specs.Passes.{Sweeping, sweeping_first, sweeping_exact, sweeping_sure, sweeping_many, sweeping_less, sweeping_on}
-use Rattle.minimize.proofs.table.stabilize.Goals.{else-rows-n, then-rows-n}
+use Rattle.minimize.proofs.table.stabilize.Goals.{else-rows-n, then-rows-n+else-before-gt254}
 use Rattle.minimize.proofs.table.stabilize.Goals as goal
 
 pub loop-n-init : goal.loop-n-init
@@ -229,4 +229,4 @@ loop-n-preserved c =
     let Q = c.loop-n.invariant in
     let W = c.sweep-rows.ensures in
     let D = sweeping_sure R Q c.sure_depth-before.ensures in
-    sweeping_on R Q D W c.if-rows-gt255.false G (λ l. elim c.if-rows-n.branch [ then-rows-n w ↦ omega (arith, w, l) | else-rows-n w ↦ omega (arith, w, l) ]) c.depth_after-depth.ensures
+    sweeping_on R Q D W c.if-rows-gt255.false G (λ l. elim c.if-rows-n.branch [ then-rows-n+else-before-gt254 w ↦ omega (arith, w, l) | else-rows-n w ↦ omega (arith, w, l) ]) c.depth_after-depth.ensures

@@ -98,7 +98,7 @@ bounds-order-c c =
     let some = actions_few D in
     let j = (target_in c.args.targets.now (entry_in c.args.order.now m) a) in
     let byte = c.type_inv.targets (255 * a + entry_in c.args.order.now m) in
-    let byte' = c.type_inv.number j in
+    let byte' = c.slice_known-2-1.given j in
     let l : j < 255 = let n = c.if-j.false in omega arith in
     let e : entry_in c.args.number.now j ≡ 255 = omega arith in
     let room = walked_room D m a c.requires.walked c.requires.m_lt_n.0 j c.requires.m_lt_n.1 refl l e in
@@ -114,7 +114,7 @@ overflow_cast-number c =
     let some = actions_few D in
     let j = (target_in c.args.targets.now (entry_in c.args.order.now m) a) in
     let byte = c.type_inv.targets (255 * a + entry_in c.args.order.now m) in
-    let byte' = c.type_inv.number j in
+    let byte' = c.slice_known-2-1.given j in
     let l : j < 255 = let n = c.if-j.false in omega arith in
     let e : entry_in c.args.number.now j ≡ 255 = omega arith in
     let room = walked_room D m a c.requires.walked c.requires.m_lt_n.0 j c.requires.m_lt_n.1 refl l e in
@@ -130,7 +130,7 @@ overflow_cast-number-2 c =
     let some = actions_few D in
     let j = (target_in c.args.targets.now (entry_in c.args.order.now m) a) in
     let byte = c.type_inv.targets (255 * a + entry_in c.args.order.now m) in
-    let byte' = c.type_inv.number j in
+    let byte' = c.slice_known-2-1.given j in
     let l : j < 255 = let n = c.if-j.false in omega arith in
     let e : entry_in c.args.number.now j ≡ 255 = omega arith in
     let room = walked_room D m a c.requires.walked c.requires.m_lt_n.0 j c.requires.m_lt_n.1 refl l e in
@@ -146,7 +146,7 @@ bounds-number-j-2 c =
     let some = actions_few D in
     let j = (target_in c.args.targets.now (entry_in c.args.order.now m) a) in
     let byte = c.type_inv.targets (255 * a + entry_in c.args.order.now m) in
-    let byte' = c.type_inv.number j in
+    let byte' = c.slice_known-2-1.given j in
     let l : j < 255 = let n = c.if-j.false in omega arith in
     let e : entry_in c.args.number.now j ≡ 255 = omega arith in
     let room = walked_room D m a c.requires.walked c.requires.m_lt_n.0 j c.requires.m_lt_n.1 refl l e in
@@ -162,7 +162,7 @@ overflow_add-result c =
     let some = actions_few D in
     let j = (target_in c.args.targets.now (entry_in c.args.order.now m) a) in
     let byte = c.type_inv.targets (255 * a + entry_in c.args.order.now m) in
-    let byte' = c.type_inv.number j in
+    let byte' = c.slice_known-2-1.given j in
     let l : j < 255 = let n = c.if-j.false in omega arith in
     let e : entry_in c.args.number.now j ≡ 255 = omega arith in
     let room = walked_room D m a c.requires.walked c.requires.m_lt_n.0 j c.requires.m_lt_n.1 refl l e in
@@ -178,7 +178,7 @@ returns c =
     let some = actions_few D in
     let j = (target_in c.args.targets.now (entry_in c.args.order.now m) a) in
     let byte = c.type_inv.targets (255 * a + entry_in c.args.order.now m) in
-    let byte' = c.type_inv.number j in
+    let byte' = c.slice_known-2-1.given j in
     let l : j < 255 = let n = c.if-j.false in omega arith in
     let e : entry_in c.args.number.now j ≡ 255 = omega arith in
     let room = walked_room D m a c.requires.walked c.requires.m_lt_n.0 j c.requires.m_lt_n.1 refl l e in
