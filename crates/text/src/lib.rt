@@ -1,9 +1,28 @@
-// Text on standard output, for the programs. What a program writes is tested, not proved; a write that fails is returned as an error.
+// Standard input and output, for the programs. What a program reads and writes is tested, not proved; a read or a write that fails is returned
+// as an error.
 // Internal: serves sister crates; a function may ask what its callers have made sure of.
 #![tactic(auto)]
 
+ghost use Rattle.std.specs.Prelude.{◌≤◌, length, IfOk};
+
 use answers::Checked;
-use std::io;
+use std::io::{self, Read};
+
+// Reads until the buffer is full or the input ends, and returns how many bytes now stand at its start.
+pub fn read_full(rt: &impl Input, buffer: &mut [u8]) -> io::Result<usize>
+    ensures { IfOk result (λ n. n ≤ length buffer.new) }
+{
+    let mut reader = rt.reader();
+    let mut filled = 0;
+    while filled < buffer.len() {
+        let got = reader.read(&mut buffer[filled..])?;
+        if got == 0 {
+            break;
+        }
+        filled += got;
+    }
+    Ok(filled)
+}
 
 pub fn put(rt: &impl Print, s: &[u8]) -> io::Result<()> {
     rt.write_all(s)
