@@ -2,33 +2,40 @@
 #![tactic(auto)]
 
 use answers::Checked;
-use libc::STDIN_FILENO;
 use reader::{Handed, block_of, opening_of};
+use std::io;
 
 fn wide(x: u8) -> usize {
     x as usize
 }
 
 // The targets of a block, for the chart's actions.
-fn put_targets(targets: [u8; 8], actions: u8) {
+fn put_targets(rt: &impl Print, targets: [u8; 8], actions: u8) -> io::Result<()> {
     for a in 0..8 {
         if a < actions as usize {
-            text::put_target(targets[a], a);
+            text::put_target(rt, targets[a], a)?;
         }
     }
+    Ok(())
 }
 
 // A block's line.
-fn put_block(number: usize, label: u16, targets: [u8; 8], actions: u8) {
-    text::put_number(number as u64);
-    text::put(b" label ");
-    text::put_number(label as u64);
-    put_targets(targets, actions);
-    text::put(b"\n");
+fn put_block(
+    rt: &impl Print,
+    number: usize,
+    label: u16,
+    targets: [u8; 8],
+    actions: u8,
+) -> io::Result<()> {
+    text::put_number(rt, number as u64)?;
+    text::put(rt, b" label ")?;
+    text::put_number(rt, label as u64)?;
+    put_targets(rt, targets, actions)?;
+    text::put(rt, b"\n")
 }
 
 // The blocks that are handed out from block `first` on, until none is left.
-fn put_blocks(chart: &[u8], first: usize, actions: u8) {
+fn put_blocks(rt: &impl Print, chart: &[u8], first: usize, actions: u8) -> io::Result<()> {
     let mut next = first;
     for _ in 0..256usize {
         let step = block_of(chart, next);
@@ -36,32 +43,31 @@ fn put_blocks(chart: &[u8], first: usize, actions: u8) {
         let targets = step.targets;
         match handed {
             Handed::NoneLeft => {
-                text::put(b"none left\n");
-                return;
+                return text::put(rt, b"none left\n");
             }
-            Handed::Block { label } => put_block(next, label, targets, actions),
+            Handed::Block { label } => put_block(rt, next, label, targets, actions)?,
         }
         next = step.next;
     }
+    Ok(())
 }
 
-fn list_chart(chart: &[u8]) {
+fn list_chart(rt: &impl Print, chart: &[u8]) -> io::Result<()> {
     let told = opening_of(chart);
     let answer = told.answer;
     let Checked::Fine = answer else {
-        text::put_checked(answer);
-        return;
+        return text::put_checked(rt, answer);
     };
     if chart.len() < 7 {
-        return;
+        return Ok(());
     }
-    text::put_header(wide(chart[6]), wide(chart[5]));
-    put_blocks(chart, told.next, chart[5]);
+    text::put_header(rt, wide(chart[6]), wide(chart[5]))?;
+    put_blocks(rt, chart, told.next, chart[5])
 }
 
 // One byte more than the longest chart is read, so that a longer one is told by its length.
-fn main() {
+fn main(rt: HostRuntime) -> io::Result<()> {
     let mut input = [0u8; 2558];
-    let got = io::read_full(STDIN_FILENO, &mut input);
-    list_chart(&input[..got]);
+    let got = text::read_full(&rt, &mut input)?;
+    list_chart(&rt, &input[..got])
 }

@@ -4,7 +4,7 @@
 ghost use Rattle.std.specs.Prelude.{◌<◌, ◌≤◌};
 
 use charting::Made;
-use libc::STDIN_FILENO;
+use std::io;
 
 // The byte at a place; 0 past the end.
 fn byte(s: &[u8], at: usize) -> usize
@@ -30,53 +30,61 @@ fn four_bytes(s: &[u8], at: usize) -> usize
 }
 
 // A number in two's complement, one of so many: from their half on it is negative.
-fn put_twos(u: usize, whole: usize)
+fn put_twos(rt: &impl Print, u: usize, whole: usize) -> io::Result<()>
     requires { (u < 4294967296) × (whole ≤ 4294967296) }
 {
     if u < whole / 2 {
-        text::put_signed(u as i64);
+        text::put_signed(rt, u as i64)
     } else {
-        text::put_signed(u as i64 - whole as i64);
+        text::put_signed(rt, u as i64 - whole as i64)
     }
 }
 
 // A bound of 2 or 4 bytes.
-fn put_bound(list: &[u8], at: usize, width: usize)
+fn put_bound(rt: &impl Print, list: &[u8], at: usize, width: usize) -> io::Result<()>
     requires { at < 9500 }
 {
     if width == 2 {
-        put_twos(two_bytes(list, at), 65536);
+        put_twos(rt, two_bytes(list, at), 65536)
     } else {
-        put_twos(four_bytes(list, at), 4294967296);
+        put_twos(rt, four_bytes(list, at), 4294967296)
     }
 }
 
 // The box of counter v, whose bounds stand at a place of the box list.
-fn put_counter(list: &[u8], at: usize, width: usize, v: usize)
+fn put_counter(rt: &impl Print, list: &[u8], at: usize, width: usize, v: usize) -> io::Result<()>
     requires { (at < 9000) × (width ≤ 4) }
 {
-    text::put(b" x");
-    text::put_number(v as u64);
-    text::put(b" ");
-    put_bound(list, at, width);
-    text::put(b"..");
-    put_bound(list, at + width, width);
+    text::put(rt, b" x")?;
+    text::put_number(rt, v as u64)?;
+    text::put(rt, b" ")?;
+    put_bound(rt, list, at, width)?;
+    text::put(rt, b"..")?;
+    put_bound(rt, list, at + width, width)
 }
 
-fn put_counters(list: &[u8], at: usize, width: usize, counters: usize)
+fn put_counters(
+    rt: &impl Print,
+    list: &[u8],
+    at: usize,
+    width: usize,
+    counters: usize,
+) -> io::Result<()>
     requires { (at < 7000) × (width ≤ 4) × (counters ≤ 3) }
 {
     for v in 0..counters {
-        put_counter(list, at + 2 * width * v, width, v);
+        put_counter(rt, list, at + 2 * width * v, width, v)?;
     }
+    Ok(())
 }
 
-fn put_targets(chart: &[u8], at: usize, actions: usize)
+fn put_targets(rt: &impl Print, chart: &[u8], at: usize, actions: usize) -> io::Result<()>
     requires { (at < 5000) × (actions < 256) }
 {
     for a in 0..actions {
-        text::put_target(byte(chart, at + a) as u8, a);
+        text::put_target(rt, byte(chart, at + a) as u8, a)?;
     }
+    Ok(())
 }
 
 // How long the records of a chart and of its box list are: numbers of counters and actions, and how many bytes a bound takes.
@@ -88,30 +96,45 @@ struct Sizes {
 }
 
 // A block's line: its number and label, then what stands at its places of the chart and the box list.
-fn put_block(chart: &[u8], entry: usize, list: &[u8], place: usize, sizes: Sizes, i: usize)
+fn put_block(
+    rt: &impl Print,
+    chart: &[u8],
+    entry: usize,
+    list: &[u8],
+    place: usize,
+    sizes: Sizes,
+    i: usize,
+) -> io::Result<()>
     requires bound { (entry < 4000) × (place < 6400) }
     requires counters_bound { (sizes.counters ≤ 3) × (sizes.actions ≤ 8) × (sizes.width ≤ 4) }
 {
-    text::put_number(i as u64);
-    text::put(b" label ");
-    text::put_number(two_bytes(chart, entry) as u64);
-    text::put(b" state ");
-    text::put_number(byte(list, place) as u64);
-    put_counters(list, place + 1, sizes.width, sizes.counters);
-    put_targets(chart, entry + 2, sizes.actions);
-    text::put(b"\n");
+    text::put_number(rt, i as u64)?;
+    text::put(rt, b" label ")?;
+    text::put_number(rt, two_bytes(chart, entry) as u64)?;
+    text::put(rt, b" state ")?;
+    text::put_number(rt, byte(list, place) as u64)?;
+    put_counters(rt, list, place + 1, sizes.width, sizes.counters)?;
+    put_targets(rt, chart, entry + 2, sizes.actions)?;
+    text::put(rt, b"\n")
 }
 
-fn put_blocks(chart: &[u8], list: &[u8], sizes: Sizes, blocks: usize)
+fn put_blocks(
+    rt: &impl Print,
+    chart: &[u8],
+    list: &[u8],
+    sizes: Sizes,
+    blocks: usize,
+) -> io::Result<()>
     requires { (sizes.counters ≤ 3) × (sizes.actions ≤ 8) × (sizes.width ≤ 4) × (blocks ≤ 255) }
 {
     let mut entry = 7;
     let mut place = 0;
     for i in 0..blocks {
-        put_block(chart, entry, list, place, sizes, i);
+        put_block(rt, chart, entry, list, place, sizes, i)?;
         entry += 2 + sizes.actions;
         place += 1 + 2 * sizes.width * sizes.counters;
     }
+    Ok(())
 }
 
 // How many bytes a bound takes: 4 in version 2 of the sheet.
@@ -121,42 +144,48 @@ fn bound_size(sheet: &[u8]) -> usize
     if byte(sheet, 3) == 2 { 4 } else { 2 }
 }
 
-fn put_chart(sheet: &[u8], chart: &[u8], list: &[u8], blocks: usize) {
+fn put_chart(
+    rt: &impl Print,
+    sheet: &[u8],
+    chart: &[u8],
+    list: &[u8],
+    blocks: usize,
+) -> io::Result<()> {
     let counters = byte(sheet, 5);
     let actions = byte(chart, 5);
     let width = bound_size(sheet);
     if counters > 3 {
-        return;
+        return Ok(());
     }
     if actions > 8 {
-        return;
+        return Ok(());
     }
     if blocks > 255 {
-        return;
+        return Ok(());
     }
-    text::put_header(blocks, actions);
+    text::put_header(rt, blocks, actions)?;
     let sizes = Sizes {
         counters,
         actions,
         width,
     };
-    put_blocks(chart, list, sizes, blocks);
+    put_blocks(rt, chart, list, sizes, blocks)
 }
 
 // The listing of a sheet.
-fn list_sheet(sheet: &[u8]) {
+fn list_sheet(rt: &impl Print, sheet: &[u8]) -> io::Result<()> {
     let mut chart = [0u8; 2557];
     let mut list = [0u8; 6375];
     let made = charting::make(sheet, &mut chart, &mut list);
     match made {
-        Made::Done { blocks } => put_chart(sheet, &chart, &list, blocks),
-        Made::Refused { number, returned } => text::put_refusal(number, returned),
+        Made::Done { blocks } => put_chart(rt, sheet, &chart, &list, blocks),
+        Made::Refused { number, returned } => text::put_refusal(rt, number, returned),
     }
 }
 
 // One byte more than the longest sheet is read, so that a longer one is told by its length.
-fn main() {
+fn main(rt: HostRuntime) -> io::Result<()> {
     let mut input = [0u8; 6774];
-    let got = io::read_full(STDIN_FILENO, &mut input);
-    list_sheet(&input[..got]);
+    let got = text::read_full(&rt, &mut input)?;
+    list_sheet(&rt, &input[..got])
 }

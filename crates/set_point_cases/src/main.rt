@@ -4,39 +4,40 @@
 
 use model::Rule;
 use set_point::SetPoint;
+use std::io;
 use text::{put, put_signed};
 
-fn put_point(point: SetPoint) {
+fn put_point(rt: &impl Print, point: SetPoint) -> io::Result<()> {
     match point {
         SetPoint::Done { old, remainder } => {
-            put(b"old ");
-            put_signed(old);
-            put(b" remainder ");
-            put_signed(remainder);
-            put(b"\n");
+            put(rt, b"old ")?;
+            put_signed(rt, old)?;
+            put(rt, b" remainder ")?;
+            put_signed(rt, remainder)?;
+            put(rt, b"\n")
         }
-        SetPoint::Refused { number, returned } => text::put_refusal(number, returned),
+        SetPoint::Refused { number, returned } => text::put_refusal(rt, number, returned),
     }
 }
 
-fn show(source: usize, factor: i64) {
-    put(b"carry x");
-    text::put_number(source as u64);
-    put(b" factor ");
-    put_signed(factor);
-    put(b" offset 5 to 16: ");
+fn show(rt: &impl Print, source: usize, factor: i64) -> io::Result<()> {
+    put(rt, b"carry x")?;
+    text::put_number(rt, source as u64)?;
+    put(rt, b" factor ")?;
+    put_signed(rt, factor)?;
+    put(rt, b" offset 5 to 16: ")?;
     let rule = Rule::Carry {
         source,
         factor,
         offset: 5,
     };
-    put_point(set_point::find(rule, 16));
+    put_point(rt, set_point::find(rule, 16))
 }
 
-fn main() {
-    show(1, 3);
-    show(2, 3);
-    show(3, 3);
-    show(18446744073709551615, 3);
-    show(18446744073709551615, 0);
+fn main(rt: HostRuntime) -> io::Result<()> {
+    show(&rt, 1, 3)?;
+    show(&rt, 2, 3)?;
+    show(&rt, 3, 3)?;
+    show(&rt, 18446744073709551615, 3)?;
+    show(&rt, 18446744073709551615, 0)
 }

@@ -1,60 +1,63 @@
-// Text on standard output, for the programs. What a program writes is tested, not proved.
+// Standard input and output, for the programs. What a program reads and writes is tested, not proved; a read or a write that fails is returned
+// as an error.
 // Internal: serves sister crates; a function may ask what its callers have made sure of.
 #![tactic(auto)]
 
-use answers::Checked;
-use libc::STDOUT_FILENO;
+ghost use Rattle.std.specs.Prelude.{◌≤◌, length, IfOk};
 
-pub fn put(s: &[u8]) {
-    io::write_all(STDOUT_FILENO, s);
+use answers::Checked;
+use std::io::{self, Read};
+
+// Reads until the buffer is full or the input ends, and returns how many bytes now stand at its start.
+pub fn read_full(rt: &impl Input, buffer: &mut [u8]) -> io::Result<usize>
+    ensures { IfOk result (λ n. n ≤ length buffer.new) }
+{
+    let mut reader = rt.reader();
+    let mut filled = 0;
+    while filled < buffer.len() {
+        let got = reader.read(&mut buffer[filled..])?;
+        if got == 0 {
+            break;
+        }
+        filled += got;
+    }
+    Ok(filled)
 }
 
-pub fn put_number(n: u64) {
-    io::print_decimal(STDOUT_FILENO, n);
+pub fn put(rt: &impl Print, s: &[u8]) -> io::Result<()> {
+    rt.write_all(s)
+}
+
+pub fn put_number(rt: &impl Print, n: u64) -> io::Result<()> {
+    print!(rt; "{n}")
 }
 
 // A signed number, with `-` in front where it is negative.
-pub fn put_signed(z: i64) {
-    if z < 0 {
-        put(b"-");
-        put_number((-1 - z) as u64 + 1);
-    } else {
-        put_number(z as u64);
-    }
+pub fn put_signed(rt: &impl Print, z: i64) -> io::Result<()> {
+    print!(rt; "{z}")
 }
 
-pub fn put_refusal(number: u8, returned: usize) {
-    put(b"refused ");
-    put_number(number as u64);
-    put(b" at ");
-    put_number(returned as u64);
-    put(b"\n");
+pub fn put_refusal(rt: &impl Print, number: u8, returned: usize) -> io::Result<()> {
+    println!(rt; "refused {number} at {returned}")
 }
 
 // The first line of a chart's listing.
-pub fn put_header(blocks: usize, actions: usize) {
-    put(b"chart ");
-    put_number(blocks as u64);
-    put(b" blocks ");
-    put_number(actions as u64);
-    put(b" actions\n");
+pub fn put_header(rt: &impl Print, blocks: usize, actions: usize) -> io::Result<()> {
+    println!(rt; "chart {blocks} blocks {actions} actions")
 }
 
 // The target of action a: a block's number, or - for barred.
-pub fn put_target(target: u8, a: usize) {
-    put(b" a");
-    put_number(a as u64);
+pub fn put_target(rt: &impl Print, target: u8, a: usize) -> io::Result<()> {
     if target == 255 {
-        put(b" -");
+        print!(rt; " a{a} -")
     } else {
-        put(b" ");
-        put_number(target as u64);
+        print!(rt; " a{a} {target}")
     }
 }
 
-pub fn put_checked(r: Checked) {
+pub fn put_checked(rt: &impl Print, r: Checked) -> io::Result<()> {
     match r {
-        Checked::Fine => put(b"fine\n"),
-        Checked::Refused { number, returned } => put_refusal(number, returned),
+        Checked::Fine => put(rt, b"fine\n"),
+        Checked::Refused { number, returned } => put_refusal(rt, number, returned),
     }
 }
