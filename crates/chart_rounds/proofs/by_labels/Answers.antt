@@ -18,8 +18,7 @@ bounds-f-i c = omega arith
 pub loop-i-preserved : goal.loop-i-preserved
 loop-i-preserved c =
     let s = c.args in
-    let l = c.loop-i in
-    (
+    let l = c.loop-i in (
       omega arith,
       length-set l.f l.i c.label_class.result ∙ l.invariant.1,
       store_next l.f l.i c.label_class.result (round_class s.c.now 0) (omega arith) c.label_class.ensures.0 l.invariant.2,

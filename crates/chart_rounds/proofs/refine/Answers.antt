@@ -22,8 +22,7 @@ bounds-g-i c = omega arith
 pub loop-i-preserved : goal.loop-i-preserved
 loop-i-preserved c =
     let s = c.args in
-    let l = c.loop-i in
-    (
+    let l = c.loop-i in (
       omega arith,
       length-set l.g l.i c.refined_class.result ∙ l.invariant.1,
       store_next l.g l.i c.refined_class.result (λ k. least (refines s.c.now (entry s.f.now) k) (blocks_of s.c.now)) (omega arith)

@@ -42,8 +42,7 @@ pub loop-k-preserved : goal.loop-k-preserved
 loop-k-preserved c =
     let l = c.loop-k in
     let few = c.requires.shaped.blocks_few in
-    let right = c.requires.targets_right in
-    (
+    let right = c.requires.targets_right in (
       omega arith,
       c.settled.ensures.f_len_2.0,
       c.settled.ensures.f_len_2.1,

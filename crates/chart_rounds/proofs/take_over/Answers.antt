@@ -17,8 +17,7 @@ bounds-f-i c = omega arith
 pub loop-i-preserved : goal.loop-i-preserved
 loop-i-preserved c =
     let s = c.args in
-    let l = c.loop-i in
-    (
+    let l = c.loop-i in (
       omega arith,
       length-set l.f l.i (entry s.g.now l.i) ∙ l.invariant.1,
       store_next l.f l.i (entry s.g.now l.i) (entry s.g.now) (omega arith) refl l.invariant.2,

@@ -39,8 +39,7 @@ loop-a-smaller c = omega arith
 pub loop-a-preserved : goal.loop-a-preserved
 loop-a-preserved c =
     let l = c.loop-a in
-    let t = c.target_of-target.result in
-    (
+    let t = c.target_of-target.result in (
       omega (arith, l.invariant.0),
       length-set l.records t c.args.i ∙ l.invariant.1,
       length-set l.actions t (l.a - 1) ∙ l.invariant.2,

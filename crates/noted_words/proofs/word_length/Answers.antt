@@ -30,8 +30,7 @@ pub loop-at-preserved : goal.loop-at-preserved
 loop-at-preserved c =
     let l = c.loop-at in
     let F = c.requires.falling in
-    let h : l.at ≤ c.args.k = omega (arith, l.invariant.0) in
-    (
+    let h : l.at ≤ c.args.k = omega (arith, l.invariant.0) in (
       omega (arith, l.invariant.0, F l.at (omega arith) h),
       λ bs. omega (arith, l.invariant.1 bs, word_length c.args.parents.now bs c.args.k l.at F (omega arith) h),
     )

@@ -13,5 +13,5 @@ visit_all-requires c =
       comparable = c.requires.comparable;
       rooms = (c.classes-4-1.given, refl, refl, c.requires.room.0, c.requires.room.1);
       queue = starts_queued c.args.c.now c.args.d.now c.separate.new.classes c.merge.new.classes (replicate 510 0) (replicate 510 0) c.args.parents.now c.args.actions.now c.requires.comparable
-            c.label_of.ensures c.label_of-2.ensures c.if-label_of.false c.blocks_of-blocks.ensures c.blocks_of.ensures c.separate.ensures c.merge.ensures refl refl;
+          c.label_of.ensures c.label_of-2.ensures c.if-label_of.false c.blocks_of-blocks.ensures c.blocks_of.ensures c.separate.ensures c.merge.ensures refl refl;
     }

@@ -30,8 +30,7 @@ pub loop-head-preserved : goal.loop-head-preserved
 loop-head-preserved c =
     let l = c.loop-head in
     let R = l.invariant.1 in
-    let (grown, Q) = still_queued c.visit_pair-progress.ensures c.in-Queued.is in
-    (
+    let (grown, Q) = still_queued c.visit_pair-progress.ensures c.in-Queued.is in (
       omega arith,
       (
         c.classes-1.given ∙ R.0,

@@ -16,8 +16,8 @@ returns-then-near_zero c =
     let fy = c.ranges.wanted in
     let e = simp (to_z-of_z w64) at c.is_factor.ensures in
     let joined : c.if-is_factor.value ≡ (f && b) = elim c.if-is_factor.branch [
-      then-is_factor w ↦ conj_second f b e w.if-is_factor.true (w.value-is ∙ (simp (to_z-of_z w64) at w.near_zero.ensures)) |
-      else-is_factor w ↦ w.value-is ∙ conj_first f b e w.if-is_factor.false
+      | then-is_factor w ↦ conj_second f b e w.if-is_factor.true (w.value-is ∙ (simp (to_z-of_z w64) at w.near_zero.ensures))
+      | else-is_factor w ↦ w.value-is ∙ conj_first f b e w.if-is_factor.false
     ] in
     conj_second (f && b) (near 1000000 c.args.wanted) joined c.if-near_zero.true (simp (to_z-of_z w64) at c.near_zero-then-near_zero.ensures)
 
@@ -30,7 +30,7 @@ returns-else-near_zero c =
     let fb = c.ranges.offset in
     let e = simp (to_z-of_z w64) at c.is_factor.ensures in
     let joined : c.if-is_factor.value ≡ (f && b) = elim c.if-is_factor.branch [
-      then-is_factor w ↦ conj_second f b e w.if-is_factor.true (w.value-is ∙ (simp (to_z-of_z w64) at w.near_zero.ensures)) |
-      else-is_factor w ↦ w.value-is ∙ conj_first f b e w.if-is_factor.false
+      | then-is_factor w ↦ conj_second f b e w.if-is_factor.true (w.value-is ∙ (simp (to_z-of_z w64) at w.near_zero.ensures))
+      | else-is_factor w ↦ w.value-is ∙ conj_first f b e w.if-is_factor.false
     ] in
     conj_first (f && b) (near 1000000 c.args.wanted) joined c.if-near_zero.false

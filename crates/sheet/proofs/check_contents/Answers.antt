@@ -30,9 +30,9 @@ check_landing-requires c =
     record {
       read = c.requires;
       passed = record {
-    fields = limits_fields _ (sym c.check_limits-limits.ensures ∙ c.in-Fine.is);
-    apart = sym c.check_overlaps-overlaps.ensures ∙ c.in-Fine-overlaps.is;
-  };
+        fields = limits_fields _ (sym c.check_limits-limits.ensures ∙ c.in-Fine.is);
+        apart = sym c.check_overlaps-overlaps.ensures ∙ c.in-Fine-overlaps.is;
+      };
     }
 
 pub returns : goal.returns

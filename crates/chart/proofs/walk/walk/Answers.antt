@@ -52,8 +52,7 @@ pub loop-i-preserved : goal.loop-i-preserved
 loop-i-preserved c =
     let l = c.loop-i in
     let v = c.label_of.result in
-    let n = length-set c.args.entries.now 0 v in
-    (
+    let n = length-set c.args.entries.now 0 v in (
       omega arith,
       walk_step c.args.c.now c.args.actions.now (set c.args.entries.now 0 v) l.entries l.i l.block l.first c.noted-first.result c.act-acted.result l.invariant.1
           (omega arith) (omega (arith, l.invariant.1.walked.same_length, c.requires.actions_in_bounds)) c.act-acted.ensures c.noted-first.ensures,

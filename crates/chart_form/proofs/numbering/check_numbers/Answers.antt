@@ -24,8 +24,7 @@ returns-in_default c =
 pub loop-i-preserved : goal.loop-i-preserved
 loop-i-preserved c =
     let s = c.args in
-    let l = c.loop-i in
-    (
+    let l = c.loop-i in (
       omega arith,
       unnamed_more s.c.now l.i l.invariant.1 c.next_in-next.ensures.0,
       c.next_in-next.ensures.1,

@@ -36,8 +36,7 @@ next_after-next-requires c = (c.loop-a.invariant.2, c.target_of.ensures.1)
 pub loop-a-preserved : goal.loop-a-preserved
 loop-a-preserved c =
     let s = c.args in
-    let l = c.loop-a in
-    (
+    let l = c.loop-a in (
       omega arith,
       next_more s.c.now s.i s.before l.a l.invariant.1 c.target_of.ensures.0 c.next_after-next.ensures.0,
       c.next_after-next.ensures.1,

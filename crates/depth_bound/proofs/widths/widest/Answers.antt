@@ -24,8 +24,7 @@ pub loop-i-preserved : goal.loop-i-preserved
 loop-i-preserved c =
     let at = c.loop-i in
     let h = c.loop-i-test.true in
-    let F = box_fits c.requires.read c.requires.well_formed at.i h c.box_at-b.ensures in
-    (
+    let F = box_fits c.requires.read c.requires.well_formed at.i h c.box_at-b.ensures in (
       omega arith,
       omega (arith, widened_le at.w c.box_at-b.result.ranges at.invariant.1 F, c.widen-w.ensures),
       narrow_more c.requires.read at.w at.i h c.box_at-b.ensures c.widen-w.ensures at.invariant.2,

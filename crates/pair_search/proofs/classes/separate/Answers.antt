@@ -19,8 +19,7 @@ bounds-classes-z c = omega arith
 
 pub loop-z-preserved : goal.loop-z-preserved
 loop-z-preserved c =
-    let l = c.loop-z in
-    (
+    let l = c.loop-z in (
       omega arith,
       length-set l.classes l.z l.z ∙ l.invariant.1,
       store_next l.classes l.z l.z (λ k. k) (omega arith) refl l.invariant.2,

@@ -31,8 +31,7 @@ pub loop-a-preserved : goal.loop-a-preserved
 loop-a-preserved c =
     let l = c.loop-a in
     let R = l.invariant.2 in
-    let (grown, Q) = still_queued c.visit-progress.ensures c.in-Queued.is in
-    (
+    let (grown, Q) = still_queued c.visit-progress.ensures c.in-Queued.is in (
       omega arith,
       omega (arith, l.invariant.1),
       (

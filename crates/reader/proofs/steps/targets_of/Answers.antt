@@ -22,8 +22,7 @@ bounds-targets-a c =
 pub loop-a-preserved : goal.loop-a-preserved
 loop-a-preserved c =
     let s = c.args in
-    let l = c.loop-a in
-    (
+    let l = c.loop-a in (
       omega arith,
       ap (λ (t : List ℕ). set t l.a c.target_of.result) l.invariant.1
           ∙ eight_more (target_of s.c.now s.i) l.a c.target_of.result (search rules) c.target_of.ensures.0,

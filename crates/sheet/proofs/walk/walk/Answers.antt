@@ -64,8 +64,7 @@ loop-n-preserved c =
     let l = c.loop-n in
     let t = c.loop-n-test.true in
     let v = c.label_at.result in
-    let n = length-set c.args.entries.now 0 v in
-    (
+    let n = length-set c.args.entries.now 0 v in (
       omega (arith, l.invariant.0, t),
       walk_step c.args.s.now c.args.actions.now (λ j. (c.type_inv.s j).fits) c.requires.s_value (set c.args.entries.now 0 v) l.entries l.n l.x l.i l.first c.noted-first.result c.act-acted.result l.invariant.1
           (omega (arith, t)) (omega (arith, t, n, l.invariant.1.walked.same_length, c.requires.actions_in_bounds)) c.act-acted.ensures c.noted-first.ensures,

@@ -13,8 +13,7 @@ slice_bounds-read_move-start c =
 
 pub read_move-requires : goal.read_move-requires
 read_move-requires c =
-    let at = c.move_place-at in
-    (
+    let at = c.move_place-at in (
       counters_limit c.requires.read,
       length_rest at.result (move_size c.args.shape.counters) c.args.s.now
           (move_within c.requires.read c.args.i c.args.a at.result c.requires.i_lt_regions.0 c.requires.i_lt_regions.1 at.ensures),

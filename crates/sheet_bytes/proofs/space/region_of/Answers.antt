@@ -31,8 +31,7 @@ loop-i-smaller c = omega arith
 
 pub loop-i-preserved : goal.loop-i-preserved
 loop-i-preserved c =
-    let loop = c.loop-i in
-    (
+    let loop = c.loop-i in (
       omega arith,
       below_more _ _ loop.invariant.1 (box_told c.requires loop.i c.args.x c.box_at-b.ensures c.inside.ensures c.if-inside.false),
     )

@@ -58,8 +58,7 @@ loop-j-preserved c =
     let x = c.share_of-left.result in
     let e = c.share_of-left.ensures ∙ ap (λ (w : RegionBox). share_three args.b args.m w) c.box_at.ensures in
     let h : at.j < regions_of s = omega (arith, c.loop-j-test.true, c.requires.read.regions_are) in
-    let l = taken (λ j. share_three args.b args.m (box_three s j)) at.j (regions_of s) at.left x (volume (all_three args.b)) h e at.invariant.1 c.requires.countable.enough in
-    (
+    let l = taken (λ j. share_three args.b args.m (box_three s j)) at.j (regions_of s) at.left x (volume (all_three args.b)) h e at.invariant.1 c.requires.countable.enough in (
       omega arith,
       taken_more (λ j. share_three args.b args.m (box_three s j)) at.j at.left x (volume (all_three args.b)) (at.left - x) e at.invariant.1 (omega arith),
     )

@@ -29,8 +29,7 @@ loop-i-smaller c = omega arith
 
 pub loop-i-preserved : goal.loop-i-preserved
 loop-i-preserved c =
-    let s = c.args.s.now in
-    (
+    let s = c.args.s.now in (
       omega arith,
       below_more _ _ c.loop-i.invariant.1
           (other_label s c.loop-i.i c.args.j c.label_at-other.result c.label_at-label.result c.label_at-other.ensures c.label_at-label.ensures c.if-other-label.false),

@@ -42,8 +42,7 @@ loop-k-preserved c =
     let t = get_or c.args.targets.now (c.args.at + at.k) 0 in
     let i = c.args.i in
     let old = get_or c.args.flags.now (c.args.at + at.k) 0 in
-    let S = at.invariant.1 in
-    (
+    let S = at.invariant.1 in (
       omega arith,
       stored_more at.k c.if-targets-at.new (omega arith) S
           (elim c.if-targets-at.branch [ then-targets-at w ↦ w.new-is ∙ raised_up t i old w.if-targets-at.true | else-targets-at w ↦ w.new-is ∙ S.behind (c.args.at + at.k) (omega arith) ∙ raised_left t i old w.if-targets-at.false ]),

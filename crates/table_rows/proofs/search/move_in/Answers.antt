@@ -14,12 +14,11 @@ slice_bounds-read_move-start c =
     omega (arith, move_within c.requires.read (region_in c.args.homes.now c.args.i) c.args.a c.move_place-at.result c.requires.i_bound_2 c.requires.i_bound.1 c.move_place-at.ensures)
 
 pub read_move-requires : goal.read_move-requires
-read_move-requires c =
-    (
-      counters_limit c.requires.read,
-      length_rest c.move_place-at.result (move_size c.args.shape.counters) c.args.s.now
-          (move_within c.requires.read (region_in c.args.homes.now c.args.i) c.args.a c.move_place-at.result c.requires.i_bound_2 c.requires.i_bound.1 c.move_place-at.ensures),
-    )
+read_move-requires c = (
+  counters_limit c.requires.read,
+  length_rest c.move_place-at.result (move_size c.args.shape.counters) c.args.s.now
+      (move_within c.requires.read (region_in c.args.homes.now c.args.i) c.args.a c.move_place-at.result c.requires.i_bound_2 c.requires.i_bound.1 c.move_place-at.ensures),
+)
 
 pub returns : goal.returns
 returns c =

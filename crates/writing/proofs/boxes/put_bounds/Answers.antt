@@ -47,8 +47,7 @@ loop-b-preserved c =
     let cells = c.args.cells.now in
     let i = c.args.i in
     let w = c.args.width in
-    let place = c.args.at + w * at.b in
-    (
+    let place = c.args.at + w * at.b in (
       omega arith,
       omega arith,
       stored_more (bound_bytes w cells i) c.args.out.now at.out c.put_cell.new.out c.args.at place at.b at.invariant.2 c.put_cell.ensures (omega (arith, bound_length w cells i at.b)),

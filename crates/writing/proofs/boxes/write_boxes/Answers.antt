@@ -59,8 +59,7 @@ pub loop-k-preserved : goal.loop-k-preserved
 loop-k-preserved c =
     let at = c.loop-k in
     let w = 1 + 2 * c.args.shape.width * c.args.shape.counters in
-    let row : ℕ → List ℕ = λ j. row_bytes c.args.shape.width c.args.shape.counters c.args.cells.now c.args.homes.now (entry_in c.args.order.now j) in
-    (
+    let row : ℕ → List ℕ = λ j. row_bytes c.args.shape.width c.args.shape.counters c.args.cells.now c.args.homes.now (entry_in c.args.order.now j) in (
       omega arith,
       omega arith,
       stored_more row c.args.out.now at.out c.put_box.new.out 0 (at.k * w) at.k at.invariant.2 c.put_box.ensures

@@ -60,8 +60,7 @@ loop-k-smaller c = omega arith
 pub loop-k-preserved : goal.loop-k-preserved
 loop-k-preserved c =
     let at = c.loop-k in
-    let A# = c.args.shape.actions in
-    (
+    let A# = c.args.shape.actions in (
       omega arith,
       omega arith,
       stored_more (ordered_bytes c.args.s.now c.args.homes.now c.args.targets.now c.args.order.now c.args.number.now c.args.shape.actions) c.args.out.now at.out c.put_record.new.out 7 (7 + at.k * (2 + A#)) at.k at.invariant.2 c.put_record.ensures

@@ -45,8 +45,7 @@ loop-a-preserved c =
     let t = c.args.targets.now in
     let number = c.args.number.now in
     let i = c.args.i in
-    let place = c.args.at + at.a in
-    (
+    let place = c.args.at + at.a in (
       omega arith,
       omega (arith, length-set at.out place (entry_in number (target_in t i at.a))),
       stored_more (target_byte t number i) c.args.out.now at.out (set at.out place (entry_in number (target_in t i at.a))) c.args.at place at.a at.invariant.2

@@ -14,8 +14,7 @@ bounds-number-0 c = omega arith
 pub loop-m-init : goal.loop-m-init
 loop-m-init c =
     let order = c.args.order.now in
-    let number = c.args.number.now in
-    (
+    let number = c.args.number.now in (
       omega arith,
       length-set order 0 0 ∙ c.requires.order_room,
       length-set number 0 0 ∙ c.requires.number_room,
