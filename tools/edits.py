@@ -103,9 +103,9 @@ def body(file, name):
 
 
 def place_of(folder, name, line, said):
-    """The declaration where an error of an edited crate stands, as `src/file.rt#function` or `specs/File.antt#name`."""
+    """The declaration where an error of an edited crate stands, as `src/file.rt#function`, `specs/File.antt#name` or `proofs/File.antt#name`."""
     parts = pathlib.PurePath(name).parts
-    if parts[0] == "proofs":
+    if parts[0] == "proofs" and len(parts) > 2:
         module = "/".join(parts[1:-2]) or ("lib" if (folder / "src" / "lib.rt").exists() else "main")
         return f"src/{module}.rt#{parts[-2]}"
     if parts[0] == "src":

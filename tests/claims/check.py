@@ -1,6 +1,6 @@
 """check.py CLAIMS PAGE..: every name on the pages and in the must-fail edits exists, and the page of claims leaves nothing out.
 
-`crate/specs/File.antt#name` or `crate/src/file.rt#name` is a name that the file under crates/ declares, and `crate/specs/File.antt` such a
+`crate/specs/File.antt#name`, or so of proofs/, or `crate/src/file.rt#name` is a name that the file under crates/ declares, and `crate/specs/File.antt` such a
 file; `edit crate/label` is a mistake that a must-fail edit tries; `name/path` that begins with a folder at the root is a path. The page of claims has a
 row for each refusal that can be given and names every mistake. The place where a mistake must be refused is such a name of its crate.
 """
@@ -42,7 +42,7 @@ def problem_of(word):
     """What is wrong with a word of a page in code type, none where it is right, False where it names nothing."""
     if word.startswith("edit "):
         return None if word[5:] in TRIED else "no such edit"
-    if "#" in word or re.fullmatch(r"\w+/(?:specs|src)/[\w/]+\.(?:antt|rt)", word):
+    if "#" in word or re.fullmatch(r"\w+/(?:specs|proofs|src)/[\w/]+\.(?:antt|rt)", word):
         path, _, name = word.partition("#")
         file = CRATES / path
         if not file.is_file():

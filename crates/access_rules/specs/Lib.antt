@@ -1,4 +1,3 @@
 pub mod Access
-pub mod Theorems
 pub mod Machine
 pub mod Answered

@@ -2,4 +2,3 @@ pub mod Stages
 pub mod Run
 pub mod Sequence
 pub mod Walk
-pub mod Loops

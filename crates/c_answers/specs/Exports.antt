@@ -1,6 +1,5 @@
 -- Answers as C sees them: document 01's number of a refusal, 0 where it was done, and what is returned.
-use Rattle.std.specs.Prelude.{◌≡◌, refl, true, false, ℕ, eqb, ℤ}
-use Rattle.std.proofs.Common.{eq-eqb, ne_eqb}
+use Rattle.std.specs.Prelude.{true, false, ℕ, eqb, ℤ}
 use Rattle.answer_rules.specs.declared.Checked.{Checked}
 use Rattle.answer_rules.specs.declared.Checked.TheVariants.{Fine, Refused}
 use Rattle.answer_rules.specs.declared.FirstBarred.{FirstBarred}
@@ -89,14 +88,6 @@ part_equal (Separation.Refused n p) old = old
 -- a rule from a kind, as in a rule record, and its numbers: kind 1 is a carry, here from counter 0, and no other kind is
 unfoldable pub rule_from : ℕ → ℤ → ℤ → Rule
 rule_from kind factor offset = elim (eqb kind 1) [ true ↦ Carry 0 factor offset | false ↦ Set offset ]
-
-pub from_carry : (kind : ℕ) (factor offset : ℤ) → kind ≡ 1 → Carry 0 factor offset ≡ rule_from kind factor offset
-unfolding rule_from
-from_carry kind factor offset e = rw (eq-eqb kind 1 e, rule_from) refl
-
-pub from_other : (kind : ℕ) (factor offset : ℤ) → (kind ≡ 1 → ⊥) → Set offset ≡ rule_from kind factor offset
-unfolding rule_from
-from_other kind factor offset e = rw (ne_eqb kind 1 e, rule_from) refl
 
 -- a set-point: 0 and 0 where it was answered; its old value and remainder, or where it was refused what the parameters held before
 unfoldable pub point_number : SetPoint → ℕ

@@ -1,12 +1,14 @@
 -- A chart is accepted exactly where it obeys the chart rules.
 use Rattle.std.specs.Prelude.{◌≡◌, refl, ◌↔◌, true, List, ℕ, ◌≤◌, ◌<◌, eqb, length, get_or, take}
 use Rattle.std.proofs.Common.{sym, ap, ◌∙◌, ⊎_elim, arith, eq-or-lt_of_le, ext_get_or, get_or-take, length-take-le, eqb-true, eq-eqb}
-use Rattle.systems.specs.Laws.{eqb_tells, true_is, is_true, all_true}
+use Rattle.systems.proofs.Laws.{eqb_tells, true_is, is_true, all_true}
 use Rattle.answer_rules.specs.declared.Checked.TheVariants.{Fine}
-use Rattle.answer_rules.specs.Stages.{and_then, each, passed, then_fine, demand_fine, each_fine, each_all}
+use Rattle.answer_rules.specs.Stages.{and_then, each}
+use Rattle.answer_rules.proofs.Stages.{passed, then_fine, demand_fine, each_fine, each_all}
 use Rattle.model.specs.Blocks.{chart_mark}
 use Rattle.model.specs.Chart.{blocks_of, record_at, label_of, round_class, ToldApart, ChartRules}
-use Rattle.model.specs.Rounds.{TargetsRight, class_own, rounds_told}
+use Rattle.model.specs.Rounds.{TargetsRight}
+use Rattle.model.proofs.Rounds.{class_own, rounds_told}
 use Rattle.chart_bytes.specs.Header.{marked, length_check, header_check}
 use Rattle.chart_bytes.specs.Shape.{Shaped, record_start}
 use Rattle.chart_bytes.specs.HeaderLaws.{mark_good, counts_good, length_good, header_passed}

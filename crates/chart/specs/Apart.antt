@@ -1,10 +1,10 @@
 -- Refusal 14 as the code finds it, from a table of classes.
 use Rattle.std.specs.Prelude.{◌≡◌, List, ℕ, eqb}
 use Rattle.std.proofs.Common.{sym, ap, ◌∙◌, eq-eqb, ne_eqb}
-use Rattle.systems.specs.Laws.{run_ext}
+use Rattle.systems.proofs.Laws.{run_ext}
 use Rattle.answer_rules.specs.declared.Checked.TheVariants.{Fine, Refused}
 use Rattle.answer_rules.specs.Stages.{and_then, demand, each}
-use Rattle.answer_rules.specs.Loops.{demand_yes, demand_no}
+use Rattle.answer_rules.proofs.Loops.{demand_yes, demand_no}
 use Rattle.model.specs.Chart.{blocks_of, record_at, round_class}
 use Rattle.chart_bytes.specs.Classes.{entry, Holds}
 use Rattle.chart.specs.Check.{class_check, classes_check}

@@ -6,7 +6,7 @@ use Rattle.answer_rules.specs.declared.Checked.TheVariants.{Fine, Refused}
 use Rattle.answer_rules.specs.Stages.{and_then}
 use Rattle.model.specs.Chart.{ChartRules}
 use Rattle.model.specs.ChartDepth.{depth_of, Settles}
-use Rattle.model.specs.ChartDepthLaws.{depth_settles}
+use Rattle.model.proofs.ChartDepthLaws.{depth_settles}
 use Rattle.chart.specs.declared.Settled.{Settled}
 use Rattle.chart.specs.declared.Settled.TheVariants.{Done}
 use Rattle.chart.specs.Check.{classes_check, form_check, chart_check}

@@ -10,8 +10,8 @@ use Rattle.answer_rules.specs.Run.{run_checks, ran_by, left_by}
 use Rattle.model.specs.Sheet.{Sheet, sheet_reading, WellFormed}
 use Rattle.model.specs.Blocks.{blocks, chart_of}
 use Rattle.model.specs.Chart.{actions_of, chart_system, chart_reading}
-use Rattle.model.specs.ChartBytes.{chart_of_actions}
-use Rattle.model.specs.ChartRules.{chart_rules, chart_reading_lem}
+use Rattle.model.proofs.ChartBytes.{chart_of_actions}
+use Rattle.model.proofs.ChartRules.{chart_rules, chart_reading_lem}
 use Rattle.chart.specs.Check.{chart_check}
 use Rattle.chart.specs.RunChart.{chart_run_check, chart_ran, chart_left}
 use Rattle.chart.specs.Accepted.{accepted}

@@ -2,10 +2,11 @@
 use Rattle.std.specs.Prelude.{◌≡◌, List, ℕ, length}
 use Rattle.answer_rules.specs.declared.Checked.TheVariants.{Fine, Refused}
 use Rattle.answer_rules.specs.declared.Ran.{Ran}
-use Rattle.answer_rules.specs.Stages.{then_fine}
+use Rattle.answer_rules.proofs.Stages.{then_fine}
 use Rattle.answer_rules.specs.Run.{run_checks, ran_by, left_by}
-use Rattle.answer_rules.specs.Walk.{run_done, run_refused}
-use Rattle.answer_rules.specs.Sequence.{Runs, sequence_passed}
+use Rattle.answer_rules.proofs.Walk.{run_done, run_refused}
+use Rattle.answer_rules.specs.Sequence.{Runs}
+use Rattle.answer_rules.proofs.Sequence.{sequence_passed}
 use Rattle.model.specs.Chart.{actions_of, chart_reading}
 use Rattle.chart.specs.Check.{chart_check}
 use Rattle.chart.specs.RunChart.{chart_run_check, chart_ran, chart_left}

@@ -7,9 +7,10 @@ use Rattle.systems.specs.Search.{run}
 use Rattle.systems.specs.System.{Alike}
 use Rattle.answer_rules.specs.declared.Checked.{Checked}
 use Rattle.answer_rules.specs.declared.Checked.TheVariants.{Fine, Refused}
-use Rattle.answer_rules.specs.Stages.{and_then, demand, each, passed, each_first}
+use Rattle.answer_rules.specs.Stages.{and_then, demand, each}
+use Rattle.answer_rules.proofs.Stages.{passed, each_first}
 use Rattle.model.specs.Chart.{actions_of, blocks_of, record_at, next_in, next_unnamed, chart_system, round_class}
-use Rattle.model.specs.Rounds.{class_own, rounds_alike}
+use Rattle.model.proofs.Rounds.{class_own, rounds_alike}
 use Rattle.chart_bytes.specs.Header.{mark_check, count_check, length_check, header_check}
 use Rattle.chart_form.specs.Form.{target_check, fields_check, limits_check, record_check, order_check, number_check, numbers_check, bar_check, bars_check}
 use Rattle.chart.specs.Check.{class_check, classes_check, form_check, chart_check}

@@ -3,12 +3,13 @@ use Rattle.std.specs.Prelude.{◌≡◌, refl, ◌⊎◌, Bool, true, false, ◌
 use Rattle.std.proofs.Common.{sym, ap, subst, ◌∙◌, inl, inr, arith, add-one, get_or-set_same, get_or-set_other, eq-eqb, ne_eqb}
 use Rattle.std.proofs.Math.Decide.{le_ind, ℕ_discrete}
 use Rattle.systems.specs.Search.{run, all, least}
-use Rattle.systems.specs.Laws.{true_is, not_true, least_is, least_le, least_ext, run_ext, below_next}
-use Rattle.answer_rules.specs.Loops.{and_both, and_first, and_second, all_stop, all_ended}
+use Rattle.systems.proofs.Laws.{true_is, not_true, least_is, least_le, least_ext, run_ext, below_next}
+use Rattle.answer_rules.proofs.Loops.{and_both, and_first, and_second, all_stop, all_ended}
 use Rattle.model.specs.Chart.{actions_of, blocks_of, label_of, target_of, same_target, refines, round_class}
 use Rattle.model.specs.ChartDepth.{depth_of}
-use Rattle.model.specs.Rounds.{TargetsRight, Quiet, Parted, changed_parted, quiet_from}
-use Rattle.model.specs.ChartDepthLaws.{depth_is}
+use Rattle.model.specs.Rounds.{TargetsRight, Quiet, Parted}
+use Rattle.model.proofs.Rounds.{changed_parted, quiet_from}
+use Rattle.model.proofs.ChartDepthLaws.{depth_is}
 
 -- what a table holds for a block
 abbrev pub entry : List ℕ → ℕ → ℕ

@@ -4,8 +4,9 @@ use Rattle.std.proofs.Common.{sym, ◌∙◌, arith, mul-le-mul_right, le-leb, l
 use Rattle.std.proofs.lemmas.Bool.{lt-leb}
 use Rattle.systems.specs.Search.{run}
 use Rattle.answer_rules.specs.declared.Checked.TheVariants.{Fine, Refused}
-use Rattle.answer_rules.specs.Stages.{and_then, demand, passed, refused, then_fine, demand_fine}
-use Rattle.answer_rules.specs.Loops.{demand_yes, demand_no, and_both, and_first, and_second, all_stop}
+use Rattle.answer_rules.specs.Stages.{and_then, demand}
+use Rattle.answer_rules.proofs.Stages.{passed, refused, then_fine, demand_fine}
+use Rattle.answer_rules.proofs.Loops.{demand_yes, demand_no, and_both, and_first, and_second, all_stop}
 use Rattle.model.specs.Blocks.{chart_mark}
 use Rattle.model.specs.Chart.{actions_of, blocks_of, record_at}
 use Rattle.chart_bytes.specs.Header.{marked, mark_check, count_check, length_check, header_check}

@@ -3,10 +3,11 @@ use Rattle.std.specs.Prelude.{◌≡◌, refl, Bool, true, false, not, ◌||◌,
 use Rattle.std.proofs.Common.{sym, ap, subst, ◌∙◌, ⊎_elim, eq-or-lt_of_le, arith, eq-eqb}
 use Rattle.std.proofs.Math.Decide.{dec_le, ℕ_discrete}
 use Rattle.std.proofs.Math.Dec.{eqb}
-use Rattle.systems.specs.Laws.{told, eqb_tells, least_le, least_lt, least_least}
+use Rattle.systems.proofs.Laws.{told, eqb_tells, least_le, least_lt, least_least}
 use Rattle.answer_rules.specs.declared.Checked.{Checked}
 use Rattle.answer_rules.specs.declared.Checked.TheVariants.{Fine}
-use Rattle.answer_rules.specs.Stages.{demand, each, demand_fine, each_first, each_fine, each_all, each_agree}
+use Rattle.answer_rules.specs.Stages.{demand, each}
+use Rattle.answer_rules.proofs.Stages.{demand_fine, each_first, each_fine, each_all, each_agree}
 use Rattle.model.specs.Chart.{blocks_of, record_at, label_of, round_class}
 use Rattle.chart_form.specs.Form.{same_bars, bar_check, bars_check}
 use Rattle.chart_form.specs.Records.{pair_apart, pair_alike, pair_wrong}

@@ -3,11 +3,12 @@ use Rattle.std.specs.Prelude.{◌≡◌, refl, ◌↔◌, ◌⊎◌, Bool, true,
 use Rattle.std.proofs.Common.{sym, ap, ◌∙◌, inl, inr, ⊎_elim, arith, ltb-true, leb-true, eqb-true, lt-ltb, le-leb, eq-eqb, ne_eqb}
 use Rattle.std.proofs.Math.Decide.{ℕ_discrete}
 use Rattle.systems.specs.Search.{all}
-use Rattle.systems.specs.Laws.{true_is, is_true, all_true}
+use Rattle.systems.proofs.Laws.{true_is, is_true, all_true}
 use Rattle.answer_rules.specs.declared.Checked.{Checked}
 use Rattle.answer_rules.specs.declared.Checked.TheVariants.{Fine}
-use Rattle.answer_rules.specs.Stages.{demand, each, passed, then_fine, demand_fine, each_fine, each_all}
-use Rattle.answer_rules.specs.Loops.{demand_yes, or_first, or_second}
+use Rattle.answer_rules.specs.Stages.{demand, each}
+use Rattle.answer_rules.proofs.Stages.{passed, then_fine, demand_fine, each_fine, each_all}
+use Rattle.answer_rules.proofs.Loops.{demand_yes, or_first, or_second}
 use Rattle.model.specs.Chart.{actions_of, blocks_of, record_at, label_of, target_of, next_in, next_unnamed}
 use Rattle.model.specs.Rounds.{TargetsRight}
 use Rattle.chart_bytes.specs.Header.{target_at}

@@ -3,7 +3,7 @@ use Rattle.std.specs.Prelude.{◌≡◌, refl, Bool, true, false, not, List, ℕ
 use Rattle.std.proofs.Common.{sym, ap, ◌∙◌, arith, add-one, lt-ltb, le-ltb, le-leb, eq-eqb, ne_eqb}
 use Rattle.std.proofs.lemmas.Bool.{lt-leb}
 use Rattle.answer_rules.specs.declared.Checked.TheVariants.{Fine, Refused}
-use Rattle.answer_rules.specs.Loops.{demand_yes, demand_no, or_first, or_second, or_neither}
+use Rattle.answer_rules.proofs.Loops.{demand_yes, demand_no, or_first, or_second, or_neither}
 use Rattle.model.specs.Chart.{actions_of, blocks_of, record_at, label_of, target_of, next_after, next_in, next_unnamed}
 use Rattle.chart_bytes.specs.Header.{target_at}
 use Rattle.chart_form.specs.Form.{target_check, record_check, order_check, same_bar, same_bars, bar_check}

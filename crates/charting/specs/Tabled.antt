@@ -5,14 +5,15 @@ use Rattle.std.proofs.Math.Path.{ap}
 use Rattle.std.proofs.Math.ListN.{length}
 use Rattle.integers.specs.LittleEndian.{Bytes}
 use Rattle.answer_rules.specs.declared.Checked.TheVariants.{Fine}
-use Rattle.answer_rules.specs.Stages.{demand, passed, demand_passed}
+use Rattle.answer_rules.specs.Stages.{demand}
+use Rattle.answer_rules.proofs.Stages.{passed, demand_passed}
 use Rattle.model.specs.Blocks.{blocks, too_many}
-use Rattle.refinement.specs.Completed.{completed_blocks, completed_few}
+use Rattle.refinement.proofs.Completed.{completed_blocks, completed_few}
 use Rattle.sheet_bytes.specs.declared.Shape.{Shape}
 use Rattle.sheet_rules.specs.Layout.{bound_size}
 use Rattle.sheet_bytes.specs.Three.{shape_of}
 use Rattle.sheet_rules.specs.Decode.{decode}
-use Rattle.sheet_rules.specs.Accepted.{stages, accepted}
+use Rattle.sheet_rules.proofs.Accepted.{stages, accepted}
 use Rattle.sheet_rules.specs.Check.{sheet_check}
 use Rattle.table_rules.specs.Meaning.{Ready}
 use Rattle.table_passes.specs.State.{counters_decoded, actions_decoded}

@@ -9,17 +9,18 @@ use Rattle.std.proofs.Math.Decide.{dec_lt}
 use Rattle.std.proofs.Math.Nat.{dvd_of_mod-eq-zero, mod-eq-zero_of_dvd}
 use Rattle.std.proofs.Math.ListN.{get_or, drop, get_or-eq_default}
 use Rattle.std.proofs.lemmas.Bool.{not-true, not-false}
-use Rattle.systems.specs.Laws.{is_true, is_false, true_is, same_test, below_next}
+use Rattle.systems.proofs.Laws.{is_true, is_false, true_is, same_test, below_next}
 use Rattle.congruence.specs.declared.Bezout.{Bezout}
 use Rattle.congruence_rules.specs.declared.Solved.{Solved}
 use Rattle.congruence_rules.specs.declared.Solved.TheVariants.{Done, None, Refused}
 use Rattle.congruence_rules.specs.Congruence.{all_below, allowed, divisor, eight, told, given, go_round, counts_left, Asked}
 use Rattle.congruence_rules.specs.Euclid.{IsBezout}
-use Rattle.congruence_rules.specs.Divisor.{divisor_has, divisor_some}
+use Rattle.congruence_rules.proofs.Divisor.{divisor_has, divisor_some}
 use Rattle.congruence_rules.specs.Greedy.{least_count, remaining, greedy}
 use Rattle.congruence.specs.Tails.{tail_at, Tails}
-use Rattle.congruence_rules.specs.Theorems.{difference, left_divided, found_divided, found_none}
-use Rattle.congruence_rules.specs.Answered.{allowed_asked, below_each, asked_answered, asked_counts, unasked_refused, zeros_at, eight_at, eight_long}
+use Rattle.congruence_rules.specs.Theorems.{difference}
+use Rattle.congruence_rules.proofs.Theorems.{left_divided, found_divided, found_none}
+use Rattle.congruence_rules.proofs.Answered.{allowed_asked, below_each, asked_answered, asked_counts, unasked_refused, zeros_at, eight_at, eight_long}
 
 -- a number that is not below m stops the test; where all were passed, all are below
 pub below_stopped : (m : ℕ) (xs : List ℕ) (i : ℕ) → i < length xs → m ≤ get_or xs i 0 → false ≡ all_below m xs

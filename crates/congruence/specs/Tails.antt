@@ -7,7 +7,7 @@ use Rattle.std.proofs.lemmas.List.{get_or-replicate}
 use Rattle.congruence.specs.declared.Bezout.{Bezout}
 use Rattle.congruence_rules.specs.Congruence.{divisor}
 use Rattle.congruence_rules.specs.Euclid.{IsBezout}
-use Rattle.congruence_rules.specs.Divisor.{divisor_has, divisor_some, divisor_most, divisor_none, divisor_is, divisor_more}
+use Rattle.congruence_rules.proofs.Divisor.{divisor_has, divisor_some, divisor_most, divisor_none, divisor_is, divisor_more}
 
 abbrev pub tail_at : List Bezout → ℕ → Bezout
 tail_at ts j = get_or ts j (record { divisor = 0; factor = 0 })

@@ -4,4 +4,3 @@ pub mod Euclid
 pub mod Divisor
 pub mod Greedy
 pub mod Theorems
-pub mod Answered

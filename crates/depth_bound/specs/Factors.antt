@@ -5,12 +5,13 @@ use Rattle.std.proofs.Math.Path.{ap}
 use Rattle.std.specs.Int.{w64}
 use Rattle.std.proofs.lemmas.Int.{to_z-of_z}
 use Rattle.std.proofs.lemmas.Bool.{eqb-false}
-use Rattle.systems.specs.Lists.{collect, get_d_each, length_each}
-use Rattle.systems.specs.Laws.{below_suc}
+use Rattle.systems.specs.Lists.{collect}
+use Rattle.systems.proofs.Lists.{get_d_each, length_each}
+use Rattle.systems.proofs.Laws.{below_suc}
 use Rattle.model.specs.declared.Rule.{Rule}
 use Rattle.model.specs.declared.Rule.TheVariants.{Set, Carry}
 use Rattle.model.specs.Sheet.{Barred as barred, Open as opened, Region, nowhere, region_at, Each, each_none, each_more}
-use Rattle.model.specs.Classes.{each_at}
+use Rattle.model.proofs.Classes.{each_at}
 use Rattle.depth_rules.specs.Composition.{great, great_factor}
 use Rattle.depth_rules.specs.DepthBound.{UnitMove, unit_barred, unit_open}
 use Rattle.sheet_bytes.specs.declared.Shape.{Shape}
@@ -22,7 +23,7 @@ use Rattle.sheet_rules.specs.Layout.{counters_of, actions_of, regions_of, kind_o
 use Rattle.sheet_rules.specs.Decode as Decode
 use Rattle.sheet_rules.specs.Decode.{decode, listed, rule_at, move_of}
 use Rattle.sheet_bytes.specs.Three.{Read, firsts, padded, rules_meant, move_meant, move_of_kind, rules_three, kind_named, move_three}
-use Rattle.sheet_rules.specs.Listed.{each_listed}
+use Rattle.sheet_rules.proofs.Listed.{each_listed}
 use Rattle.depth_bound.specs.Depth.{Tells, UnitRegion, UnitFactors}
 
 -- what an answer tells

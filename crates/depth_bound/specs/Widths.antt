@@ -4,12 +4,13 @@ use Rattle.std.proofs.Math.Path.{sym, ap, subst}
 use Rattle.std.proofs.Common.{◌∙◌, ⊎_elim, arith, add-one, mul-le-mul_left, mul-le-mul_right, le_trans}
 use Rattle.std.proofs.Math.Nat.{two-pow-succ, pow-le-pow_right}
 use Rattle.std.proofs.Math.Decide.{dec_lt}
-use Rattle.integers.specs.Order.{ints}
+use Rattle.integers.proofs.Order.{ints}
 use Rattle.integers.specs.declared.Range.{Range}
-use Rattle.integers.specs.Range.{size, vacant, size_some, size_none, within_size, RangeWithin}
-use Rattle.systems.specs.Laws.{told, true_is}
+use Rattle.integers.specs.Range.{size, vacant, RangeWithin}
+use Rattle.integers.proofs.RangeLaws.{size_some, size_none, within_size}
+use Rattle.systems.proofs.Laws.{told, true_is}
 use Rattle.model.specs.Sheet.{Sheet, Region, nowhere, region_at, Each, each_none, each_more, RangeFits, WellFormed}
-use Rattle.model.specs.Classes.{each_at}
+use Rattle.model.proofs.Classes.{each_at}
 use Rattle.depth_rules.specs.DepthBound.{Doublings, unit_factors, narrow_ranges, depth_bound}
 use Rattle.sheet_bytes.specs.declared.Shape.{Shape}
 use Rattle.sheet_bytes.specs.declared.Ranges.{Ranges}
@@ -19,7 +20,7 @@ use Rattle.sheet_rules.specs.Decode as Decode
 use Rattle.sheet_rules.specs.Decode.{decode, listed, range_at}
 use Rattle.sheet_bytes.specs.Three.{Read, firsts, padded, zero_range, box_three, firsts_padded}
 use Rattle.sheet_bytes.specs.Bounds.{RangesWithin, box_within}
-use Rattle.sheet_rules.specs.Listed.{each_of}
+use Rattle.sheet_rules.proofs.Listed.{each_of}
 use Rattle.depth_bound.specs.Depth.{UnitFactors, NarrowRegion, NarrowRanges, widened, exact_depth, Tells}
 use Rattle.depth_bound.specs.Factors.{region_is, regions_count, below_more}
 

@@ -12,4 +12,3 @@ pub mod FirstNamings
 pub mod NotedWords
 pub mod Pairs
 pub mod PairVisiting
-pub mod PairVerdict

@@ -6,5 +6,3 @@ pub mod LittleEndian
 pub mod Bits
 pub mod Machine
 pub mod Quotient
-pub mod Cases
-pub mod Dividend

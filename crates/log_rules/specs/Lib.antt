@@ -1,4 +1,2 @@
 pub mod Compare
 pub mod Listed
-pub mod Theorems
-pub mod Machine

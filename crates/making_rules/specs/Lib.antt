@@ -1,3 +1,2 @@
 pub mod Making
 pub mod Claims
-pub mod Proofs

@@ -1,9 +1,8 @@
 -- Making a chart (document 01): what is checked, what is answered, and what the two lent buffers then hold.
-use Rattle.std.specs.Prelude.{◌≡◌, refl, true, not, List, ℕ, ◌+◌, ◌*◌, ◌≤◌, leb, length}
-use Rattle.std.proofs.Common.{sym, ap, subst, ◌∙◌, le-leb, leb-true}
+use Rattle.std.specs.Prelude.{◌≡◌, not, List, ℕ, ◌+◌, ◌*◌, leb, length}
 use Rattle.answer_rules.specs.declared.Checked.{Checked}
 use Rattle.answer_rules.specs.declared.Checked.TheVariants.{Fine, Refused}
-use Rattle.answer_rules.specs.Stages.{and_then, demand, passed, refused, then_fine, demand_fine, demand_passed, demand_failed}
+use Rattle.answer_rules.specs.Stages.{and_then, demand}
 use Rattle.answer_rules.specs.Run.{overwrite}
 use Rattle.model.specs.Sheet.{Sheet}
 use Rattle.model.specs.Blocks.{blocks, too_many, chart_of, box_list_of}
@@ -47,44 +46,3 @@ pub record Makes (checks : Checked) (w : ℕ) (s : Sheet) (r : Made) (chart char
   pub answer : r ≡ made_by checks s
   pub chart_left : chart' ≡ written_by checks (chart_of s) chart
   pub list_left : list' ≡ written_by checks (box_list_of w s) list
-
-pub makes_refused : {checks : Checked} {n p : ℕ} (w : ℕ) (s : Sheet) (chart list : List ℕ) → Refused n p ≡ checks → Makes checks w s (Made.Refused n p) chart chart list list
-unfolding made_by written_by
-makes_refused {checks} {n} {p} w s chart list e =
-    subst (λ (k : Checked). Makes k w s (Made.Refused n p) chart chart list list) e (record { answer = refl; chart_left = refl; list_left = refl })
-
-pub makes_done : {checks : Checked} (w : ℕ) (s : Sheet) (n : ℕ) (chart chart' list list' : List ℕ) → Fine ≡ checks → length (blocks s) ≡ n
-    → chart' ≡ overwrite (chart_of s) chart → list' ≡ overwrite (box_list_of w s) list → Makes checks w s (Done n) chart chart' list list'
-unfolding made_by written_by
-makes_done {checks} w s n chart chart' list list' e b p q =
-    subst (λ (k : Checked). Makes k w s (Done n) chart chart' list list') e (record { answer = ap Done (sym b); chart_left = p; list_left = q })
-
--- the checks behind those of the sheet
-pub many_blocks : (w : ℕ) (s : Sheet) (chart list : ℕ) → too_many s ≡ true → Refused 9 0 ≡ block_checks w s chart list
-unfolding block_checks
-many_blocks w s chart list e = refused _ (sym (demand_failed (not (too_many s)) 9 0 (ap not e)))
-
--- rooms that suffice
-pub rooms_pass : (c l chart list : ℕ) → c ≤ chart → l ≤ list → Fine ≡ rooms_for c l chart list
-unfolding rooms_for
-rooms_pass c l chart list h k =
-    passed (sym (demand_passed (leb c chart) 10 c (le-leb c chart h))) (demand_passed (leb l list) 10 l (le-leb l list k))
-
-pub rooms_fit : (c l chart list : ℕ) → rooms_for c l chart list ≡ Fine → (c ≤ chart) × (l ≤ list)
-unfolding rooms_for
-rooms_fit c l chart list e =
-    let (p, q) = then_fine (demand (leb c chart) 10 c) (demand (leb l list) 10 l) e in
-    (leb-true c chart (demand_fine (leb c chart) 10 c p), leb-true l list (demand_fine (leb l list) 10 l q))
-
--- the checks of a refused sheet, and of an accepted one
-pub sheet_refused : (s : List ℕ) (chart list n p : ℕ) {r : Checked} → r ≡ sheet_check s → r ≡ Refused n p → Refused n p ≡ make_checks s chart list
-unfolding make_checks
-sheet_refused s chart list n p e q = refused (block_checks (bound_size s) (decode s) chart list) (sym e ∙ q)
-
-pub sheet_passed : (s : List ℕ) (chart list : ℕ) {r : Checked} → r ≡ sheet_check s → r ≡ Fine → block_checks (bound_size s) (decode s) chart list ≡ make_checks s chart list
-unfolding make_checks
-sheet_passed s chart list e q = passed (sym e ∙ q) refl
-
-pub makes_by : {checks checks' : Checked} (w : ℕ) (s : Sheet) (r : Made) (chart chart' list list' : List ℕ) → checks ≡ checks' → Makes checks w s r chart chart' list list'
-    → Makes checks' w s r chart chart' list list'
-makes_by w s r chart chart' list list' e M = subst (λ (k : Checked). Makes k w s r chart chart' list list') e M

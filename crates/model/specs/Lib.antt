@@ -4,15 +4,10 @@ pub mod Chart
 pub mod Listing
 pub mod Boxes
 pub mod Classes
-pub mod Finite
 pub mod ClassTheorem
 pub mod BoxList
 pub mod ChartBytes
-pub mod Labels
 pub mod ChartDepth
 pub mod Rounds
-pub mod ChartDepthLaws
-pub mod ChartRules
-pub mod ChartWords
 pub mod ChartEquality
 pub mod Theorems

@@ -4,7 +4,7 @@ use Rattle.std.specs.Prelude.{ℕ, ◌+◌, ◌≤◌, ◌<◌, ◌≡◌, refl,
 use Rattle.std.proofs.Math.Decide.{ℕ_discrete}
 use Rattle.std.proofs.Common.{arith, sym, ap, ◌∙◌, length-set, get_or-set_other, eq-eqb, ne_eqb}
 use Rattle.systems.specs.Search.{count}
-use Rattle.systems.specs.Laws.{true_is, count_is, count_some, count_less}
+use Rattle.systems.proofs.Laws.{true_is, count_is, count_some, count_less}
 use Rattle.systems.specs.System.{Reading}
 use Rattle.chart_bytes.specs.Classes.{store_next}
 

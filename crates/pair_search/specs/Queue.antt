@@ -6,17 +6,20 @@ use Rattle.std.proofs.Math.Option.{some, none}
 use Rattle.std.proofs.Math.ListN.{get_or}
 use Rattle.std.proofs.Math.Seq.{get_or-set_same, get_or-set_other}
 use Rattle.systems.specs.System.{entry, Below, below_nil, Alike}
-use Rattle.systems.specs.Laws.{below_next}
+use Rattle.systems.proofs.Laws.{below_next}
 use Rattle.systems.specs.Entries.{Plain}
-use Rattle.exploration.specs.Beside.{side, side_left, side_right}
-use Rattle.exploration.specs.FirstWords.{below_snoc}
+use Rattle.exploration.specs.Beside.{side}
+use Rattle.exploration.proofs.Beside.{side_left, side_right}
+use Rattle.exploration.proofs.FirstWords.{below_snoc}
 use Rattle.model.specs.Chart.{actions_of, blocks_of, label_of, chart_step, chart_system}
-use Rattle.model.specs.Rounds.{TargetsRight, chart_step_out}
+use Rattle.model.specs.Rounds.{TargetsRight}
+use Rattle.model.proofs.Rounds.{chart_step_out}
 use Rattle.chart_bytes.specs.Shape.{Shaped}
-use Rattle.noted_words.specs.Words.{Falling, noted_word, word_none, word_more, word_same}
+use Rattle.noted_words.specs.Words.{Falling, noted_word}
+use Rattle.noted_words.proofs.Words.{word_none, word_more, word_same}
 use Rattle.exploration.specs.Pairs.{Pair, JoinedAll, Visited, FirstSeparating}
-use Rattle.exploration.specs.PairVisiting.{visited_begun, visited_barred, visited_joined, visited_new, visited_next}
-use Rattle.exploration.specs.PairVerdict.{visited_all, visited_parts, starts_apart}
+use Rattle.exploration.proofs.PairVisiting.{visited_begun, visited_barred, visited_joined, visited_new, visited_next}
+use Rattle.exploration.proofs.PairVerdict.{visited_all, visited_parts, starts_apart}
 use Rattle.pair_search.specs.Classes.{merged, Classes, classes_begun, classes_room, classes_merged}
 
 -- what is asked of the two charts: their form is right, no label is 65,535, and they have as many actions

@@ -5,7 +5,6 @@ pub mod Numbering
 pub mod Walk
 pub mod Potential
 pub mod SheetTable
-pub mod Bound
 pub mod Widths
 pub mod Loop
 pub mod Completed

@@ -5,21 +5,23 @@ use Rattle.std.proofs.Math.Option.{Option}
 use Rattle.systems.specs.System.{Alike}
 use Rattle.answer_rules.specs.declared.Checked.{Checked}
 use Rattle.answer_rules.specs.declared.Checked.TheVariants.{Fine, Refused}
-use Rattle.answer_rules.specs.Stages.{demand, then_fine, demand_fine}
+use Rattle.answer_rules.specs.Stages.{demand}
+use Rattle.answer_rules.proofs.Stages.{then_fine, demand_fine}
 use Rattle.answer_rules.specs.Run.{overwrite}
 use Rattle.model.specs.Chart.{actions_of, blocks_of, chart_system, chart_reading}
-use Rattle.model.specs.Labels.{chart_plain}
+use Rattle.model.proofs.Labels.{chart_plain}
 use Rattle.chart_bytes.specs.Shape.{Shaped}
 use Rattle.chart.specs.Accepted.{rules_shaped}
-use Rattle.noted_words.specs.Words.{noted_word, word_short}
+use Rattle.noted_words.specs.Words.{noted_word}
+use Rattle.noted_words.proofs.Words.{word_short}
 use Rattle.pair_search.specs.declared.Progress.{Progress}
 use Rattle.pair_search.specs.Queue.{Comparable, Noted}
 use Rattle.pair_search.specs.Progress.{Finds, separated, equivalent}
 use Rattle.separation_rules.specs.declared.Separation.{Separation}
 use Rattle.separation_rules.specs.declared.Separation.TheVariants.{Equal, Parted}
 use Rattle.separation_rules.specs.Separation.{evidence, largest, raised_by, charts_check, bytes_needed, request_check, pair_check, separated_by, left_by}
-use Rattle.separation_rules.specs.Refusals.{capped_fits, capped_most, charts_rules}
-use Rattle.separation_rules.specs.Theorems.{evidence_some, evidence_none}
+use Rattle.separation_rules.proofs.Refusals.{capped_fits, capped_most, charts_rules}
+use Rattle.separation_rules.proofs.Theorems.{evidence_some, evidence_none}
 
 -- a refusal that is raised, as the code finds it
 pub raised_fine : (l : ℕ) {c : Checked} → c ≡ Fine → Fine ≡ raised_by l c

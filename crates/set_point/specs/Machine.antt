@@ -4,15 +4,18 @@ use Rattle.std.proofs.Common.{sym, subst, ◌∙◌, lit≤, SFits}
 use Rattle.std.proofs.Math.Path.{ap}
 use Rattle.std.specs.Int.{w64}
 use Rattle.integers.specs.declared.Range.{Range}
-use Rattle.integers.specs.Order.{ints}
-use Rattle.integers.specs.Range.{Within, within_sub, within_mul}
-use Rattle.integers.specs.Machine.{back64, within_fits, within_read, within_back}
+use Rattle.integers.proofs.Order.{ints}
+use Rattle.integers.specs.Range.{Within}
+use Rattle.integers.proofs.RangeLaws.{within_sub, within_mul}
+use Rattle.integers.specs.Machine.{back64}
+use Rattle.integers.proofs.Machine.{within_fits, within_read, within_back}
 use Rattle.integers.specs.Inverse.{inverse}
 use Rattle.model.specs.declared.Rule.{Rule}
 use Rattle.model.specs.declared.Rule.TheVariants.{Set, Carry}
 use Rattle.set_point_rules.specs.declared.SetPoint.{SetPoint}
 use Rattle.set_point_rules.specs.declared.SetPoint.TheVariants.{Done, Refused}
-use Rattle.set_point_rules.specs.Euclid.{quotient, remainder, quotient_pos, quotient_neg, quotient_within}
+use Rattle.set_point_rules.specs.Euclid.{quotient, remainder}
+use Rattle.set_point_rules.proofs.Euclid.{quotient_pos, quotient_neg, quotient_within}
 use Rattle.set_point_rules.specs.SetPoint.{allowed, solution, set_point}
 
 -- a conjunction as code finds it: its first part holds, so it is the second; or its first part does not

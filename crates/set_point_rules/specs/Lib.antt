@@ -1,3 +1,2 @@
 pub mod Euclid
 pub mod SetPoint
-pub mod Theorems

@@ -6,24 +6,27 @@ use mathlib.Core.List.{List}
 use Rattle.std.proofs.Math.Option.{some, none}
 use Rattle.std.proofs.Math.Dec.{T}
 use Rattle.std.proofs.Math.IntN.{pos}
-use Rattle.integers.specs.Order.{ints}
+use Rattle.integers.proofs.Order.{ints}
 use Rattle.integers.specs.LittleEndian.{Bytes}
 use Rattle.integers.specs.declared.Range.{Range}
-use Rattle.integers.specs.Range.{contains, contains_le, Within, within_zero, RangeWithin}
-use Rattle.systems.specs.Laws.{both}
+use Rattle.integers.specs.Range.{contains, Within, RangeWithin}
+use Rattle.integers.proofs.RangeLaws.{contains_le, within_zero}
+use Rattle.systems.proofs.Laws.{both}
 use Rattle.answer_rules.specs.declared.Checked.TheVariants.{Fine}
 use Rattle.answer_rules.specs.declared.FirstBarred.{FirstBarred}
 use Rattle.answer_rules.specs.declared.FirstBarred.TheVariants.{Nothing}
 use Rattle.answer_rules.specs.declared.Ran.TheVariants.{Done}
-use Rattle.answer_rules.specs.Stages.{then_fine}
+use Rattle.answer_rules.proofs.Stages.{then_fine}
 use Rattle.answer_rules.specs.Run.{run_checks, noted_at, ran_by, left_by}
-use Rattle.answer_rules.specs.Sequence.{Runs, sequence_passed}
+use Rattle.answer_rules.specs.Sequence.{Runs}
+use Rattle.answer_rules.proofs.Sequence.{sequence_passed}
 use Rattle.answer_rules.specs.Walk as Any
+use Rattle.answer_rules.proofs.Walk as Any_proofs
 use Rattle.model.specs.declared.Rule.{Rule}
 use Rattle.model.specs.Sheet as Model
 use Rattle.model.specs.Sheet.{Configuration, Box, Region, Covered, WellFormed, within, in_box, applied, moved, step, region_of, region_number, sheet_system, sheet_reading, RuleFits, Each, MoveFits, open_fits}
-use Rattle.model.specs.Boxes.{in_box_parts}
-use Rattle.model.specs.Classes.{covered_in}
+use Rattle.model.proofs.Boxes.{in_box_parts}
+use Rattle.model.proofs.Classes.{covered_in}
 use Rattle.sheet_bytes.specs.declared.Shape.{Shape}
 use Rattle.sheet_bytes.specs.declared.Ranges.{Ranges}
 use Rattle.sheet_bytes.specs.declared.Values.{Values}
@@ -36,13 +39,14 @@ use Rattle.sheet_rules.specs.Decode.{rule_at, move_at, region_at, start_of, deco
 use Rattle.sheet_bytes.specs.Three.{Read, firsts, ranges_meant, values_meant, rules_meant, box_meant, config_meant, move_meant, move_of_kind, padded, padded_out, zero_rule, box_three, start_three, move_three, box_meant_lem, start_meant, move_meant_lem}
 use Rattle.sheet_bytes.specs.Space.{RulesSafe, ValuesWithin, all_three, land_three, land_meant, fits_safe}
 use Rattle.sheet_bytes.specs.Bounds.{RangesWithin}
-use Rattle.sheet_rules.specs.Fits.{moves_fit}
+use Rattle.sheet_rules.proofs.Fits.{moves_fit}
 use Rattle.sheet_form.specs.BoxFits.{box_fits}
 use Rattle.sheet.specs.declared.walk.Acted.{Acted}
 use Rattle.sheet_rules.specs.Check.{sheet_check}
 use Rattle.sheet_regions.specs.Landing.{Passed}
 use Rattle.sheet_regions.specs.Shares.{countable}
-use Rattle.sheet_rules.specs.Accepted.{Stages, stages, regions_count, region_is, box_is, step_is, accepted}
+use Rattle.sheet_rules.specs.Accepted.{Stages}
+use Rattle.sheet_rules.proofs.Accepted.{stages, regions_count, region_is, box_is, step_is, accepted}
 use Rattle.sheet_rules.specs.RunSheet.{sheet_run_check}
 
 -- a value in a range lies within its bounds
@@ -216,7 +220,7 @@ module _ (s : List ℕ) (B : Bytes s) (e : sheet_check s ≡ Fine) where
 
     -- So one action does what its move says: a barred one leaves everything as it is,
     pub acts_barred : m.kind ≡ Barred → Acts s x a (record { config = x; region = i; entry = 65535; barred = true })
-    acts_barred q = record { place = k; took = Any.took_barred (sheet_system (decode s)) (config_meant (counters_of s) x) (does_nothing q) }
+    acts_barred q = record { place = k; took = Any_proofs.took_barred (sheet_system (decode s)) (config_meant (counters_of s) x) (does_nothing q) }
 
     -- an open one leads where the code lands.
     pub acts_open : (y : Config) (j v : ℕ) → m.kind ≡ Open → y ≡ land_three m x → j ≡ region_number (decode s) (config_meant (counters_of s) y) → v ≡ label_at s j
@@ -226,7 +230,7 @@ module _ (s : List ℕ) (B : Bytes s) (e : sheet_check s ≡ Fine) where
         record {
           place = p;
           took =
-              Any.took_open (sheet_system (decode s)) (config_meant (counters_of s) x) (config_meant (counters_of s) y) v
+              Any_proofs.took_open (sheet_system (decode s)) (config_meant (counters_of s) x) (config_meant (counters_of s) y) v
               (does_land q ∙ ap (λ (z : Config). some (config_meant (counters_of s) z)) (sym r)) (at_label y j v p u);
         }
 
@@ -244,13 +248,13 @@ module _ (s w : List ℕ) (B : Bytes s) (e : sheet_check s ≡ Fine) where
       record {
         place = k;
         walked = subst (λ (z : Configuration). Any.Walk (sheet_system (decode s)) (start_of s) w (set old 0 v) 0 z Nothing (set old 0 v)) (sym y)
-            (Any.walk_start (sheet_system (decode s)) (start_of s) w old v h
+            (Any_proofs.walk_start (sheet_system (decode s)) (start_of s) w old v h
             (at_label s B e x i v k r ∙ ap (λ (z : Configuration). (sheet_system (decode s)).label z) y));
       }
 
   pub walk_old : (old : List ℕ) (v n : ℕ) (x : Config) (i : ℕ) (first : FirstBarred) (ls : List ℕ) → Walk s w (set old 0 v) n x i first ls → Walk s w old n x i first ls
   walk_old old v n x i first ls k =
-      record { place = k.place; walked = Any.walk_old (sheet_system (decode s)) (start_of s) w old v n (config_meant (counters_of s) x) first ls k.walked }
+      record { place = k.place; walked = Any_proofs.walk_old (sheet_system (decode s)) (start_of s) w old v n (config_meant (counters_of s) x) first ls k.walked }
 
   -- one action
   pub walk_step : (old ls : List ℕ) (n : ℕ) (x : Config) (i : ℕ) (first next : FirstBarred) (r : Acted) → Walk s w old n x i first ls → n < length w → n + 1 < length ls
@@ -261,7 +265,7 @@ module _ (s w : List ℕ) (B : Bytes s) (e : sheet_check s ≡ Fine) where
         place = a.place;
         walked =
             subst (λ (f : FirstBarred). Any.Walk (sheet_system (decode s)) (start_of s) w old (n + 1) (config_meant (counters_of s) r.config) f (set ls (n + 1) r.entry)) (sym d)
-            (Any.walk_step (sheet_system (decode s)) (start_of s) w old ls n r.entry r.barred (config_meant (counters_of s) x) (config_meant (counters_of s) r.config) first k.walked
+            (Any_proofs.walk_step (sheet_system (decode s)) (start_of s) w old ls n r.entry r.barred (config_meant (counters_of s) x) (config_meant (counters_of s) r.config) first k.walked
             hw hl a.took);
       }
 
@@ -269,7 +273,7 @@ module _ (s w : List ℕ) (B : Bytes s) (e : sheet_check s ≡ Fine) where
   pub walk_done : (old ls : List ℕ) (n : ℕ) (x : Config) (i : ℕ) (first : FirstBarred) → Walk s w old n x i first ls → n ≡ length w → n < length ls
       → (Done (length w + 1) first ≡ ran_by Fine (sheet_reading (decode s) w)) × (ls ≡ left_by Fine (sheet_reading (decode s) w) old)
   unfolding sheet_reading decode
-  walk_done old ls n x i first k q h = Any.walk_done (sheet_system (decode s)) (start_of s) w old ls n (config_meant (counters_of s) x) first k.walked q h
+  walk_done old ls n x i first k q h = Any_proofs.walk_done (sheet_system (decode s)) (start_of s) w old ls n (config_meant (counters_of s) x) first k.walked q h
 
 -- what the readers answer, by the sheet's own counts
 pub number_read : {s : List ℕ} {shape : Shape} → Read s shape → (x : Config) (i : ℕ) → i ≡ region_number (decode s) (config_meant shape.counters x)

@@ -1,17 +1,18 @@
 -- The whole check, as the code goes through its stages.
 use Rattle.std.specs.Prelude.{◌≡◌, ◌&&◌, List, ℕ, ◌≤◌, leb, length, take}
 use Rattle.std.proofs.Common.{ap, leb-true}
-use Rattle.systems.specs.Laws.{is_true, both}
+use Rattle.systems.proofs.Laws.{is_true, both}
 use Rattle.answer_rules.specs.declared.Checked.{Checked}
 use Rattle.answer_rules.specs.declared.Checked.TheVariants.{Fine}
-use Rattle.answer_rules.specs.Stages.{and_then, demand, each, then_fine}
+use Rattle.answer_rules.specs.Stages.{and_then, demand, each}
+use Rattle.answer_rules.proofs.Stages.{then_fine}
 use Rattle.sheet_bytes.specs.declared.Shape.{Shape}
 use Rattle.sheet_rules.specs.Layout.{sheet_mark, version_of, counters_of, actions_of, regions_of}
 use Rattle.sheet_rules.specs.Shape.{Shaped}
 use Rattle.sheet_bytes.specs.Three.{Read, shape_of}
 use Rattle.sheet_rules.specs.Form.{same_bytes, from_to, check_header, check_counts, check_limits}
 use Rattle.sheet_rules.specs.Check.{check_label, check_overlap, check_start, check_landing}
-use Rattle.sheet_rules.specs.Accepted.{between, demanded}
+use Rattle.sheet_rules.proofs.Accepted.{between, demanded}
 
 -- 4 to 8
 unfoldable pub contents_check : List ℕ → Checked

@@ -1,14 +1,15 @@
 -- How far from zero the numbers of a sheet are, and what cuts of its boxes ask.
 use Rattle.std.specs.Prelude.{◌≡◌, refl, Bool, true, false, cond, List, ℕ, ◌≤◌, ◌<◌, ltb}
 use Rattle.std.proofs.Common.{ltb-true}
-use Rattle.integers.specs.Range.{within_zero, RangeWithin}
+use Rattle.integers.specs.Range.{RangeWithin}
+use Rattle.integers.proofs.RangeLaws.{within_zero}
 use Rattle.model.specs.declared.Rule.{Rule}
 use Rattle.model.specs.Sheet.{RuleFits, set_fits, Each}
 use Rattle.sheet_bytes.specs.declared.Ranges.{Ranges}
 use Rattle.sheet_bytes.specs.declared.Rules.{Rules}
 use Rattle.sheet_rules.specs.Layout.{counters_of}
 use Rattle.sheet_rules.specs.Decode.{listed, range_at}
-use Rattle.sheet_rules.specs.Listed.{each_of}
+use Rattle.sheet_rules.proofs.Listed.{each_of}
 use Rattle.sheet_bytes.specs.Three.{padded, zero_range, zero_rule, rules_three, box_three}
 use Rattle.sheet_bytes.specs.Cuts.{fits_wider}
 

@@ -16,7 +16,8 @@ use Rattle.sheet_bytes.specs.declared.Move.TheVariants.{Barred, Open}
 use Rattle.sheet_bytes.specs.declared.RegionMove.{RegionMove}
 use Rattle.sheet_rules.specs.Layout.{counters_of, bound_size, move_size, region_size, place_by, region_place, move_place, move_part, low_place, high_place, rule_place, start_state, start_place, start_value, state_at, kind_of, source_of, factor_of, offset_of}
 use Rattle.sheet_rules.specs.Decode.{range_at, rule_of, rule_at}
-use Rattle.sheet_rules.specs.Shape.{TwoOrFour, two_or_four, width_few, bounds_le, move_size_le, moves_le, regions_le, region_end, start_end, bound_end, move_end, header_end, length_le, rule_end}
+use Rattle.sheet_rules.specs.Shape.{TwoOrFour}
+use Rattle.sheet_rules.proofs.Shape.{two_or_four, width_few, bounds_le, move_size_le, moves_le, regions_le, region_end, start_end, bound_end, move_end, header_end, length_le, rule_end}
 use Rattle.sheet_bytes.specs.Three.{Read, padded, padded_in, padded_out, zero_range, zero_rule, box_three, start_padded, start_three, kind_named, move_three}
 
 -- a shape within the limits of the counts: places made of it are small

@@ -3,10 +3,11 @@ use Rattle.std.specs.Prelude.{◌≡◌, refl, Bool, true, false, ◌&&◌, List
 use Rattle.std.proofs.Common.{sym, subst, ◌∙◌, not-suc-le-zero, le_of_suc-le-suc, zero-lt-suc, arith, lit≤, eq-eqb, ne_eqb, SFits}
 use Rattle.std.proofs.Math.Path.{ap}
 use Rattle.std.specs.Int.{w64}
-use Rattle.integers.specs.Range.{contains, Within, within_add, within_mul, within_zero, within_wider}
-use Rattle.integers.specs.Machine.{within_fits}
+use Rattle.integers.specs.Range.{contains, Within}
+use Rattle.integers.proofs.RangeLaws.{within_add, within_mul, within_zero, within_wider}
+use Rattle.integers.proofs.Machine.{within_fits}
 use Rattle.integers.specs.Inverse.{carried}
-use Rattle.systems.specs.Lists.{length_each, get_d_each}
+use Rattle.systems.proofs.Lists.{length_each, get_d_each}
 use Rattle.model.specs.declared.Rule.{Rule}
 use Rattle.model.specs.declared.Rule.TheVariants.{Set, Carry}
 use Rattle.model.specs.Sheet.{Configuration, Box, Region, nowhere, place_in, region_number, within, in_box, applied, updated, landing, RuleFits, set_fits, carry_fits, Each, each_none, each_more}

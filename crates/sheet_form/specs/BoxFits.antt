@@ -5,7 +5,7 @@ use Rattle.answer_rules.specs.declared.Checked.TheVariants.{Fine}
 use Rattle.answer_rules.specs.Stages.{each}
 use Rattle.sheet_rules.specs.Layout.{regions_of}
 use Rattle.sheet_rules.specs.Form.{check_fields}
-use Rattle.sheet_rules.specs.Fits.{range_fits}
+use Rattle.sheet_rules.proofs.Fits.{range_fits}
 use Rattle.sheet_bytes.specs.Three.{box_three}
 use Rattle.sheet_bytes.specs.Bounds.{RangesWithin, box_within}
 

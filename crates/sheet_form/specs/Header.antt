@@ -5,10 +5,11 @@ use Rattle.std.proofs.Math.Path.{ap}
 use Rattle.std.proofs.lemmas.Bool.{lt-leb}
 use Rattle.answer_rules.specs.declared.Checked.{Checked}
 use Rattle.answer_rules.specs.declared.Checked.TheVariants.{Refused}
-use Rattle.answer_rules.specs.Stages.{demand, demand_failed}
+use Rattle.answer_rules.specs.Stages.{demand}
+use Rattle.answer_rules.proofs.Stages.{demand_failed}
 use Rattle.sheet_bytes.specs.declared.Shape.{Shape}
 use Rattle.sheet_rules.specs.Layout.{sheet_mark, version_of, counters_of, actions_of, regions_of, bound_size, place_by, region_place}
-use Rattle.sheet_rules.specs.Shape.{two_or_four, width_few}
+use Rattle.sheet_rules.proofs.Shape.{two_or_four, width_few}
 use Rattle.sheet_bytes.specs.Three.{shape_of}
 use Rattle.sheet_bytes.specs.Fields.{Small}
 use Rattle.sheet_rules.specs.Form.{same_bytes, from_to, check_header, check_length}

@@ -5,7 +5,7 @@ use Rattle.std.specs.Int.Signed.{le_z}
 use Rattle.integers.specs.declared.Range.{Range}
 use Rattle.integers.specs.Range.{near}
 use Rattle.integers.specs.LittleEndian.{signed_at}
-use Rattle.systems.specs.Laws.{run_ext}
+use Rattle.systems.proofs.Laws.{run_ext}
 use Rattle.answer_rules.specs.declared.Checked.{Checked}
 use Rattle.answer_rules.specs.declared.Checked.TheVariants.{Fine}
 use Rattle.answer_rules.specs.Stages.{and_then, demand, each}

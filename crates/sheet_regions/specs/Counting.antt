@@ -5,16 +5,19 @@ use mathlib.Core.List.Memᴰ
 use mathlib.Core.List.{List, [], ◌∷◌, ◌++◌, map, Memᴰ}
 use Rattle.std.proofs.Math.Dec.{eqb-suc-suc}
 use Rattle.std.proofs.Math.IntN.{suc_ℤ}
-use Rattle.integers.specs.Order.{up, dn, ints, le_out, lt_lt_z}
+use Rattle.integers.specs.Order.{up, dn}
+use Rattle.integers.proofs.Order.{ints, le_out, lt_lt_z}
 use Rattle.integers.specs.declared.Range.{Range}
-use Rattle.integers.specs.Range.{contains, contains_le, size, size_some, size_none, vacant}
+use Rattle.integers.specs.Range.{contains, size, vacant}
+use Rattle.integers.proofs.RangeLaws.{contains_le, size_some, size_none}
 use Rattle.systems.specs.Search.{run, any}
-use Rattle.systems.specs.Laws.{told, is_true, is_false, true_is, any_true}
+use Rattle.systems.proofs.Laws.{told, is_true, is_false, true_is, any_true}
 use Rattle.model.specs.Sheet.{within}
 use Rattle.model.specs.Blocks.{volume}
-use Rattle.model.specs.Boxes.{Inside, inside_none, inside_more, within_inside}
+use Rattle.model.specs.Boxes.{Inside, inside_none, inside_more}
+use Rattle.model.proofs.Boxes.{within_inside}
 use Rattle.model.specs.Listing.{numbers, numbers_in, prefixed, values_in}
-use Rattle.model.specs.Finite.{suc_parts, values_in_mem, volume_none}
+use Rattle.model.proofs.Finite.{suc_parts, values_in_mem, volume_none}
 use Rattle.sheet_rules.specs.Check.{every}
 
 -- 1 for a test that passes

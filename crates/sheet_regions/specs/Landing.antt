@@ -3,24 +3,24 @@
 use Rattle.std.specs.Prelude.{◌≡◌, refl, ◌↔◌, Bool, true, List, [], ◌∷◌, ℕ, ◌+◌, ◌≤◌, ◌<◌, T, eqb, length, ℤ}
 use Rattle.std.proofs.Common.{sym, ap, subst, ◌∙◌, arith}
 use Rattle.integers.specs.LittleEndian.{Bytes}
-use Rattle.systems.specs.Laws.{same_test, run_ext}
-use Rattle.systems.specs.Lists.{length_each}
+use Rattle.systems.proofs.Laws.{same_test, run_ext}
+use Rattle.systems.proofs.Lists.{length_each}
 use Rattle.answer_rules.specs.declared.Checked.TheVariants.{Fine}
 use Rattle.answer_rules.specs.Stages.{each, demand}
 use Rattle.model.specs.declared.Rule.{Rule}
 use Rattle.model.specs.Sheet.{Box, Move, Barred, Open, within, in_box, landing, moved, RuleFits, Each, MoveFits, open_fits}
 use Rattle.model.specs.Blocks.{volume, preimage}
-use Rattle.model.specs.Boxes.{in_box_parts, preimage_exact}
+use Rattle.model.proofs.Boxes.{in_box_parts, preimage_exact}
 use Rattle.model.specs.Listing.{values_in, configuration, members}
-use Rattle.model.specs.Finite.{values_in_mem, length_members}
+use Rattle.model.proofs.Finite.{values_in_mem, length_members}
 use Rattle.sheet_rules.specs.Layout.{counters_of, actions_of, regions_of, move_place}
 use Rattle.sheet_rules.specs.Decode.{range_at, box_at, move_at}
 use Rattle.sheet_rules.specs.Shape.{Shaped}
 use Rattle.sheet_rules.specs.Form.{check_fields}
-use Rattle.sheet_rules.specs.Fits.{moves_fit}
+use Rattle.sheet_rules.proofs.Fits.{moves_fit}
 use Rattle.sheet_rules.specs.Check.{every, lands, covered, check_overlap, check_landing}
 use Rattle.sheet_regions.specs.Counting.{count, sum, count_le, count_map, count_ext, count_any, count_within, every_count}
-use Rattle.sheet_rules.specs.Overlap.{regions_apart}
+use Rattle.sheet_rules.proofs.Overlap.{regions_apart}
 
 -- how many configurations of a box an open move takes into a wanted box
 unfoldable pub share : Box → ℕ → List Rule → Box → ℕ

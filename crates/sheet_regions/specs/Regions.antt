@@ -4,7 +4,7 @@ use Rattle.std.proofs.Common.{sym, ap, ◌∙◌, arith, ltb→lt, lt→ltb, eq-
 use Rattle.integers.specs.declared.Range.{Range}
 use Rattle.integers.specs.Range.{vacant, meet}
 use Rattle.systems.specs.Search.{any, all}
-use Rattle.systems.specs.Laws.{is_true, true_is, is_false, not_true, same_test, any_true, all_true}
+use Rattle.systems.proofs.Laws.{is_true, true_is, is_false, not_true, same_test, any_true, all_true}
 use Rattle.answer_rules.specs.declared.Checked.{Checked}
 use Rattle.answer_rules.specs.Stages.{demand}
 use Rattle.model.specs.Sheet.{region_number}
@@ -14,7 +14,7 @@ use Rattle.sheet_rules.specs.Layout.{counters_of, regions_of, label_at, state_at
 use Rattle.sheet_rules.specs.Decode.{range_at, start_of, decode}
 use Rattle.sheet_bytes.specs.Three.{Read, config_meant, start_three, start_meant}
 use Rattle.sheet_rules.specs.Check.{overlap, covered, check_start}
-use Rattle.sheet_rules.specs.Accepted.{covered_is, regions_count}
+use Rattle.sheet_rules.proofs.Accepted.{covered_is, regions_count}
 
 -- a search that found one, and one that found none
 pub any_yes : (p : ℕ → Bool) (n i : ℕ) → i < n → p i ≡ true → true ≡ any p n

@@ -5,16 +5,17 @@ use Rattle.std.proofs.Common.{◌∙◌, ⊎_elim, arith, eq-or-lt_of_le, add-on
 use Rattle.std.proofs.Math.Bool.{true, false, cond}
 use Rattle.integers.specs.LittleEndian.{Bytes}
 use Rattle.systems.specs.Search.{run}
-use Rattle.systems.specs.Laws.{run_ext}
-use Rattle.systems.specs.Lists.{length_each}
+use Rattle.systems.proofs.Laws.{run_ext}
+use Rattle.systems.proofs.Lists.{length_each}
 use Rattle.answer_rules.specs.declared.Checked.{Checked}
 use Rattle.answer_rules.specs.declared.Checked.TheVariants.{Fine, Refused}
-use Rattle.answer_rules.specs.Stages.{demand, each, each_more, each_first}
+use Rattle.answer_rules.specs.Stages.{demand, each}
+use Rattle.answer_rules.proofs.Stages.{each_more, each_first}
 use Rattle.model.specs.declared.Rule.{Rule}
 use Rattle.model.specs.Sheet.{RuleFits, Each, MoveFits, open_fits, Open as opened}
 use Rattle.model.specs.Blocks.{volume, preimage, cuts, emptied}
-use Rattle.model.specs.Boxes.{emptied_none}
-use Rattle.model.specs.Finite.{volume_none}
+use Rattle.model.proofs.Boxes.{emptied_none}
+use Rattle.model.proofs.Finite.{volume_none}
 use Rattle.sheet_bytes.specs.declared.Ranges.{Ranges}
 use Rattle.sheet_bytes.specs.declared.RegionBox.{RegionBox}
 use Rattle.sheet_bytes.specs.declared.RegionMove.{RegionMove}
@@ -27,7 +28,7 @@ use Rattle.sheet_bytes.specs.Fields.{rest}
 use Rattle.sheet_bytes.specs.Three.{ranges_three, rules_three, box_three, move_three, move_of_kind, move_meant, move_meant_lem, rules_meant, firsts_padded, zero_rule}
 use Rattle.sheet_bytes.specs.Cuts.{all_three, cuts_three}
 use Rattle.sheet_bytes.specs.Bounds.{RangesWithin, RulesFit, rules_fit}
-use Rattle.sheet_rules.specs.Fits.{moves_fit}
+use Rattle.sheet_rules.proofs.Fits.{moves_fit}
 use Rattle.sheet_form.specs.BoxFits.{box_fits}
 use Rattle.sheet_rules.specs.Check.{check_landing}
 use Rattle.sheet_regions.specs.Counting.{sum}

@@ -2,12 +2,15 @@
 use Rattle.std.specs.Prelude.{◌≡◌, refl, Bool, true, false, cond, ℕ, zero, suc, ◌+◌, ◌*◌, ◌≤◌, ℤ, pos, negsuc, ◌-ℤ◌}
 use Rattle.std.proofs.Common.{sym, ap, ◌∙◌, ⊎_elim, arith, mul-le-mul, mul_assoc, mul-one}
 use Rattle.std.specs.Int.Signed.{le_z}
-use Rattle.integers.specs.Order.{up, dn, le_z_true, le_z_false, sub_size}
+use Rattle.integers.specs.Order.{up, dn}
+use Rattle.integers.proofs.Order.{le_z_true, le_z_false, sub_size}
 use Rattle.integers.specs.declared.Range.{Range}
-use Rattle.integers.specs.Range.{contains, meet, larger, smaller, size, size_some, size_none, vacant, vacant_not, contains_le, Within, within_out, within_size, RangeWithin}
-use Rattle.integers.specs.Division.{floor, ceiling, floor_size, ceiling_size}
+use Rattle.integers.specs.Range.{contains, meet, larger, smaller, size, vacant, Within, RangeWithin}
+use Rattle.integers.proofs.RangeLaws.{size_some, size_none, vacant_not, contains_le, within_out, within_size}
+use Rattle.integers.specs.Division.{floor, ceiling}
+use Rattle.integers.proofs.Division.{floor_size, ceiling_size}
 use Rattle.integers.specs.Inverse.{inverse}
-use Rattle.systems.specs.Laws.{told, true_is}
+use Rattle.systems.proofs.Laws.{told, true_is}
 use Rattle.model.specs.declared.Rule.{Rule}
 use Rattle.model.specs.declared.Rule.TheVariants.{Set, Carry}
 use Rattle.model.specs.Sheet.{RuleFits, carry_fits}

@@ -11,8 +11,8 @@ use Rattle.model.specs.declared.Rule.{Rule}
 use Rattle.model.specs.declared.Rule.TheVariants.{Set, Carry}
 use Rattle.model.specs.Sheet.{RuleFits, carry_fits, Each, each_none, each_more}
 use Rattle.model.specs.Blocks.{empty, emptied, cut, cuts, volume}
-use Rattle.model.specs.Boxes.{cuts_exact, emptied_none, length_emptied}
-use Rattle.model.specs.Finite.{volume_none}
+use Rattle.model.proofs.Boxes.{cuts_exact, emptied_none, length_emptied}
+use Rattle.model.proofs.Finite.{volume_none}
 use Rattle.sheet_bytes.specs.declared.Ranges.{Ranges}
 use Rattle.sheet_bytes.specs.declared.RegionBox.{RegionBox}
 use Rattle.sheet_bytes.specs.declared.RegionMove.{RegionMove}

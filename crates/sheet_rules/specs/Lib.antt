@@ -1,11 +1,8 @@
 pub mod Layout
 pub mod Decode
 pub mod Shape
-pub mod Listed
 pub mod Form
-pub mod Fits
 pub mod Version1
 pub mod Check
-pub mod Overlap
 pub mod Accepted
 pub mod RunSheet

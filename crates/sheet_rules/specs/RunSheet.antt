@@ -1,10 +1,8 @@
 -- The run of an action sequence on a sheet: its checks, its answer and what the lent buffer then holds.
-use Rattle.std.specs.Prelude.{◌≡◌, List, ℕ, length}
-use Rattle.std.proofs.Common.{sym, ap}
+use Rattle.std.specs.Prelude.{List, ℕ, length}
 use Rattle.answer_rules.specs.declared.Checked.{Checked}
-use Rattle.answer_rules.specs.declared.Checked.TheVariants.{Refused}
 use Rattle.answer_rules.specs.declared.Ran.{Ran}
-use Rattle.answer_rules.specs.Stages.{and_then, refused}
+use Rattle.answer_rules.specs.Stages.{and_then}
 use Rattle.answer_rules.specs.Run.{run_checks, ran_by, left_by}
 use Rattle.model.specs.Sheet.{sheet_reading}
 use Rattle.sheet_rules.specs.Layout.{actions_of}
@@ -22,8 +20,3 @@ sheet_ran s w room = ran_by (sheet_run_check s w room) (sheet_reading (decode s)
 -- what the buffer then holds
 unfoldable pub sheet_left : List ℕ → List ℕ → List ℕ → List ℕ
 sheet_left s w old = left_by (sheet_run_check s w (length old)) (sheet_reading (decode s) w) old
-
--- A sheet that is refused leaves it as it was, whatever the sequence is.
-pub refused_leaves : (s w old : List ℕ) (n p : ℕ) → sheet_check s ≡ Refused n p → sheet_left s w old ≡ old
-unfolding sheet_left sheet_run_check left_by
-refused_leaves s w old n p e = sym (ap (λ (c : Checked). left_by c (sheet_reading (decode s) w) old) (refused (run_checks (actions_of s) w (length old)) e))

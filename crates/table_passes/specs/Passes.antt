@@ -4,10 +4,12 @@ use Rattle.std.proofs.Common.{sym, ap, subst, ◌∙◌, inr, add-one, arith}
 use Rattle.std.proofs.Math.Decide.{ℕ_discrete, dec_le}
 use Rattle.model.specs.Blocks.{too_many}
 use Rattle.depth_rules.specs.DepthBound.{Doublings, depth_bound}
-use Rattle.refinement.specs.Depth.{Near, near_kept, near_deep, deep_zero, deep_le, deep_kept, deep_shrunk}
-use Rattle.refinement.specs.SheetTable.{sheet_frame, sheet_framed}
-use Rattle.refinement.specs.Potential.{falling_refl, falling_trans, measure_pass}
-use Rattle.refinement.specs.Loop.{working_fell}
+use Rattle.refinement.specs.Depth.{Near}
+use Rattle.refinement.proofs.Depth.{near_kept, near_deep, deep_zero, deep_le, deep_kept, deep_shrunk}
+use Rattle.refinement.specs.SheetTable.{sheet_frame}
+use Rattle.refinement.proofs.SheetTable.{sheet_framed}
+use Rattle.refinement.proofs.Potential.{falling_refl, falling_trans, measure_pass}
+use Rattle.refinement.proofs.Loop.{working_fell}
 use Rattle.sheet_bytes.specs.declared.Shape.{Shape}
 use Rattle.sheet_rules.specs.Decode.{decode}
 use Rattle.table_rules.specs.Arrays.{flag_in, depth_in, first_in, fresh_in}

@@ -3,7 +3,7 @@ use Rattle.std.specs.Prelude.{◌≡◌, true, ℕ, ◌+◌, ◌*◌, ◌≤◌,
 use Rattle.std.proofs.Common.{sym, ◌∙◌, arith}
 use Rattle.std.proofs.Math.Path.{subst}
 use mathlib.Core.List.{List}
-use Rattle.refinement.specs.Potential.{falling_less}
+use Rattle.refinement.proofs.Potential.{falling_less}
 use Rattle.refinement.specs.Loop.{Advance, rows_potential}
 use Rattle.sheet_bytes.specs.declared.Shape.{Shape}
 use Rattle.sheet_bytes.specs.declared.RegionMove.{RegionMove}

@@ -7,18 +7,20 @@ use Rattle.std.proofs.Math.Decide.{ℕ_discrete, dec_le}
 use native.Mathlib.Omega.{arith}
 use Rattle.std.proofs.Math.Dec.{T}
 use Rattle.std.proofs.Math.ListN.{length-set}
-use Rattle.systems.specs.Laws.{is_true, true_is, not_true}
+use Rattle.systems.proofs.Laws.{is_true, true_is, not_true}
 use Rattle.model.specs.Sheet as Model
 use Rattle.model.specs.Sheet.{Configuration, Box, Move, in_box, landing, region_number, Covered, RuleFits, RangeFits, Each}
 use Rattle.model.specs.Blocks.{cuts, emptied, preimage, too_many}
-use Rattle.model.specs.Boxes.{in_box_parts}
-use Rattle.model.specs.Classes.{covered_in}
+use Rattle.model.proofs.Boxes.{in_box_parts}
+use Rattle.model.proofs.Classes.{covered_in}
 use Rattle.refinement.specs.Table.{SoundRow}
 use Rattle.refinement.specs.Flags.{Elsewhere, Lowered}
-use Rattle.refinement.specs.SheetTable.{Row, sheet_frame, Completed, move_at, region_row, cut_row, step_open, row_fits, open_fits_at}
+use Rattle.refinement.specs.SheetTable.{Row, sheet_frame, Completed, move_at, region_row, cut_row}
+use Rattle.refinement.proofs.SheetTable.{step_open, row_fits, open_fits_at}
 use Rattle.refinement.specs.Potential.{Falling}
 use Rattle.refinement.specs.Depth.{Deep, AllDeep, Reaches}
-use Rattle.refinement.specs.Loop.{Advance, advance_cut, advance_barred, advance_down, Working, rows_potential, landed, working_first, working_barred, working_same, working_cut, working_append, working_depths, working_target, working_level, working_deeper, working_deep, working_done, working_many}
+use Rattle.refinement.specs.Loop.{Advance, Working, rows_potential}
+use Rattle.refinement.proofs.Loop.{advance_cut, advance_barred, advance_down, landed, working_first, working_barred, working_same, working_cut, working_append, working_depths, working_target, working_level, working_deeper, working_deep, working_done, working_many}
 use Rattle.sheet_bytes.specs.declared.Shape.{Shape}
 use Rattle.sheet_bytes.specs.declared.Ranges.{Ranges}
 use Rattle.sheet_bytes.specs.declared.Values.{Values}
@@ -32,13 +34,17 @@ use Rattle.sheet_bytes.specs.Three.{ranges_meant, values_meant, rules_meant, box
 use Rattle.sheet_bytes.specs.Space.{ValuesWithin, land_three, land_meant}
 use Rattle.sheet_bytes.specs.Cuts.{cuts_three}
 use Rattle.sheet_bytes.specs.Bounds.{RangesWithin, RulesFit, rules_fit}
-use Rattle.table_rules.specs.Arrays.{CellsRoom, HomesRoom, TargetsRoom, FlagsRoom, BoundsRoom, values_in, ranges_in, region_in, state_in, config_in, box_in, target_in, flag_in, depth_in, source_in, first_in, put_ranges, put_values, put_ranges_length, put_values_length, put_home_length, ranges_same, ranges_other, values_kept, values_same, values_other, ranges_kept, region_same, state_same as home_same, region_other, state_other}
-use Rattle.table_rules.specs.Marks.{raised_down, RaisedTo, RowRaised, DownBelow}
+use Rattle.table_rules.specs.Arrays.{CellsRoom, HomesRoom, TargetsRoom, FlagsRoom, BoundsRoom, values_in, ranges_in, region_in, state_in, config_in, box_in, target_in, flag_in, depth_in, source_in, first_in, put_ranges, put_values}
+use Rattle.table_rules.proofs.Arrays.{put_ranges_length, put_values_length, put_home_length, ranges_same, ranges_other, values_kept, values_same, values_other, ranges_kept, region_same, state_same as home_same, region_other, state_other}
+use Rattle.table_rules.specs.Marks.{RaisedTo, RowRaised, DownBelow}
+use Rattle.table_rules.proofs.Marks.{raised_down}
 use Rattle.table_rules.specs.Depths.{Deepened, Levelled}
 use Rattle.table_rules.specs.Sources.{Noting, Opening, Begun}
-use Rattle.table_rules.specs.Meaning.{Ready, row_in, holds_in, move_in, move_in_lem, box_in_lem, covered_few}
+use Rattle.table_rules.specs.Meaning.{Ready, row_in, holds_in, move_in}
+use Rattle.table_rules.proofs.Meaning.{move_in_lem, box_in_lem, covered_few}
 use Rattle.table_rules.specs.Growth.{new_cells, new_homes}
-use Rattle.table_rules.specs.Padding.{PaddedValues, PaddedRanges, PaddedRules, box_padded, start_padded, move_padded, land_padded, padded_same, ranges_within, values_within, cuts_meant, cuts_padded}
+use Rattle.table_rules.specs.Padding.{PaddedValues, PaddedRanges, PaddedRules}
+use Rattle.table_rules.proofs.Padding.{box_padded, start_padded, move_padded, land_padded, padded_same, ranges_within, values_within, cuts_meant, cuts_padded}
 
 -- The arrays hold a state of the refinement loop with n rows. No row below the lowest source of another leads to it by an action whose flag is down, and no
 -- row below the first has a flag up.

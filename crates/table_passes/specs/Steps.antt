@@ -4,9 +4,11 @@ use Rattle.std.proofs.Common.{sym, ap, subst, ◌∙◌, inr, add-one, arith}
 use Rattle.std.proofs.Math.Decide.{dec_le, ℕ_discrete}
 use Rattle.model.specs.Sheet.{in_box, region_number, Covered}
 use Rattle.model.specs.Blocks.{too_many}
-use Rattle.refinement.specs.Depth.{Shrunk, Deep, AllDeep, Near, Reaches, shrunk_refl, shrunk_trans, shrunk_first, deep_shrunk, reaches_kept}
+use Rattle.refinement.specs.Depth.{Shrunk, Deep, AllDeep, Near, Reaches}
+use Rattle.refinement.proofs.Depth.{shrunk_refl, shrunk_trans, shrunk_first, deep_shrunk, reaches_kept}
 use Rattle.refinement.specs.SheetTable.{Row, sheet_frame, Completed}
-use Rattle.refinement.specs.Potential.{falling_refl, falling_less, falling_trans, measure}
+use Rattle.refinement.specs.Potential.{measure}
+use Rattle.refinement.proofs.Potential.{falling_refl, falling_less, falling_trans}
 use Rattle.refinement.specs.Loop.{Advance, rows_potential}
 use Rattle.sheet_bytes.specs.declared.Shape.{Shape}
 use Rattle.sheet_bytes.specs.declared.Config.{Config}

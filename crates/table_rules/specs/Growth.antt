@@ -1,15 +1,13 @@
 -- The row for a configuration: one that has it, or a new one.
-use Rattle.std.specs.Prelude.{◌≡◌, refl, true, List, ℕ, ◌+◌, ◌≤◌, ◌<◌, ℤ}
-use Rattle.std.proofs.Common.{ap, ◌∙◌, arith}
+use Rattle.std.specs.Prelude.{◌≡◌, true, List, ℕ, ◌+◌, ◌≤◌, ◌<◌, ℤ}
 use Rattle.model.specs.Sheet.{region_number}
-use Rattle.sheet_bytes.specs.declared.RegionBox.{RegionBox}
 use Rattle.sheet_bytes.specs.declared.Config.{Config}
 use Rattle.sheet_rules.specs.Decode.{decode}
 use Rattle.sheet_bytes.specs.Three.{config_meant, box_three}
 use Rattle.table_rules.specs.Arrays.{put_values, put_ranges, put_home}
 use Rattle.table_rules.specs.Marks.{RowRaised}
 use Rattle.table_rules.specs.Sources.{Begun}
-use Rattle.table_rules.specs.Meaning.{holds_in, NoneHolds, Found}
+use Rattle.table_rules.specs.Meaning.{holds_in, NoneHolds}
 
 -- the cells and homes after the configuration came as row n with the box of its region
 unfoldable pub new_cells : ℕ → List ℕ → List ℤ → ℕ → Config → List ℤ
@@ -18,17 +16,6 @@ new_cells V# s c n x = put_ranges (put_values c n x.values) n (box_three s (regi
 unfoldable pub new_homes : ℕ → List ℕ → List ℕ → ℕ → Config → List ℕ
 new_homes V# s h n x = put_home h n (region_number (decode s) (config_meant V# x)) x.state
 
--- as the code stores them
-pub cells_new : (V# : ℕ) (s : List ℕ) (c d e : List ℤ) (n r : ℕ) (x : Config) (b : RegionBox) → r ≡ region_number (decode s) (config_meant V# x) → b ≡ box_three s r
-    → d ≡ put_values c n x.values → e ≡ put_ranges d n b.ranges → e ≡ new_cells V# s c n x
-unfolding new_cells
-cells_new V# s c d e n r x b p q f g =
-    g ∙ ap (λ (l : List ℤ). put_ranges l n b.ranges) f ∙ ap (λ (k : RegionBox). put_ranges (put_values c n x.values) n k.ranges) (q ∙ ap (box_three s) p)
-
-pub homes_new : (V# : ℕ) (s h g : List ℕ) (n r : ℕ) (x : Config) → r ≡ region_number (decode s) (config_meant V# x) → g ≡ put_home h n r x.state → g ≡ new_homes V# s h n x
-unfolding new_homes
-homes_new V# s h g n r x p f = f ∙ ap (λ (k : ℕ). put_home h n k x.state) p
-
 -- Of the row for a configuration in arrays of n rows: one of them, and nothing was done; or a new one, with the number n; or none (255), where there are 255
 -- rows and no more fit.
 pub data RowFor (V# : ℕ) (s : List ℕ) (c : List ℤ) (h f d : List ℕ) (n : ℕ) (x : Config) : List ℤ → List ℕ → List ℕ → List ℕ → ℕ → Type 0 where
@@ -36,20 +23,6 @@ pub data RowFor (V# : ℕ) (s : List ℕ) (c : List ℤ) (h f d : List ℕ) (n :
   row_new : {c' : List ℤ} {h' f' d' : List ℕ} → n < 255 → NoneHolds V# c h x n → c' ≡ new_cells V# s c n x → h' ≡ new_homes V# s h n x → RowRaised f f' n → Begun d d' n
       → RowFor V# s c h f d n x c' h' f' d' n
   row_none : n ≡ 255 → NoneHolds V# c h x n → RowFor V# s c h f d n x c h f d 255
-
--- a row fits in
-pub room_left : {n : ℕ} → n ≤ 255 → (n ≡ 255 → ⊥) → n < 255
-room_left l q = omega arith
-
--- a search that found none
-pub nobody : {V# : ℕ} {c : List ℤ} {h : List ℕ} {x : Config} {n r : ℕ} → Found V# c h x n r → n ≤ r → NoneHolds V# c h x n
-nobody F l = let b = F.few in F.none (omega arith)
-
--- the row that was found or made is one of 255
-pub row_few : {V# : ℕ} {s : List ℕ} {c c' : List ℤ} {h f d h' f' d' : List ℕ} {n j : ℕ} {x : Config} → n ≤ 255 → RowFor V# s c h f d n x c' h' f' d' j → (j ≡ 255 → ⊥) → j < 255
-row_few few (row_there j l u) q = omega arith
-row_few few (row_new l N ec eh U B) q = l
-row_few few (row_none e N) q = absurd (q refl)
 
 -- the number of rows with row j among them
 pub record RowsWith (n j r : ℕ) : Type 0 where

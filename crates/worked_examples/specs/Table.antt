@@ -1,35 +1,22 @@
 -- The worked examples of document 01, and some of document 02 (ways of U1, evidence of U2, version 2 of U4, depths of U6, counts of U13), computed on the
 -- definitions: a row for each, one test over the table, one proof.
-use Rattle.std.specs.Prelude.{Bool, true, false, ◌&&◌, List, [], ◌∷◌, ℕ, suc, T, eqb, set, ℤ, pos, negsuc}
+use Rattle.std.specs.Prelude.{Bool, true, false, ◌&&◌, List, [], ◌∷◌, ℕ, suc, eqb, set, ℤ, pos, negsuc}
 use Rattle.std.proofs.Math.Option.{Option, some, none}
 use Rattle.std.specs.Int.Signed.{le_z}
 use Rattle.integers.specs.declared.Range.{Range}
-use Rattle.integers.specs.Range.{contains, meet, vacant, size, smaller, larger}
-use Rattle.integers.specs.Division.{floor_by, floor, ceiling}
 use Rattle.integers.specs.Inverse.{inverse}
-use Rattle.integers.specs.LittleEndian.{joined, unsigned_at, signed_of, signed_at, split, bits_of}
-use Rattle.systems.specs.Search.{run, count, least}
-use Rattle.exploration.specs.Counting as counting
-use Rattle.systems.specs.Lists.{collect}
-use Rattle.systems.specs.System.{after, entry, written, earliest, first_barred, same_numbers, same_index, same_reading, reading}
-use Rattle.systems.specs.Words.{ended, lists_below, shorter_lists, first_that}
-use Rattle.exploration.specs.Exploration.{place, known, added, visited, visited_at, visited_next, explore}
+use Rattle.systems.specs.System.{same_numbers, same_index}
 use Rattle.answer_rules.specs.declared.Checked.{Checked}
 use Rattle.answer_rules.specs.declared.Checked.TheVariants.{Fine, Refused}
-use Rattle.answer_rules.specs.Stages.{and_then, demand}
 use Rattle.model.specs.declared.Rule.TheVariants.{Carry}
-use Rattle.model.specs.Sheet.{Move, Barred, Open, Region, Sheet, within, in_box, place_in, region_number, region_of, applied, updated, landing, moved, step, sheet_system, sheet_reading}
-use Rattle.model.specs.Blocks.{emptied, cut, cuts, preimage, narrowed, class_box, volume, volumes, configurations, class_of, same_class, blocks, target_byte, chart_record, chart_of, range_bytes, box_record, box_list_of}
-use Rattle.model.specs.Chart.{record_at, label_of, target_of, block_named, chart_step, chart_system, chart_reading, same_target, refines, round_class}
-use Rattle.model.specs.ChartDepth.{parts, depth_of, label_count, depth_limit}
-use Rattle.model.specs.Listing.{numbers, numbers_in, prefixed, values_in, members}
-use Rattle.sheet_rules.specs.Layout.{version_of, wide, bound_size, offset_limit, move_size, region_size, start_place, start_value, region_place, label_at, state_at, low_place, high_place, move_place, rule_place, factor_of, offset_of}
-use Rattle.sheet_rules.specs.Decode.{rule_of, move_of, range_at, box_at, move_at, region_at, start_of, decode}
-use Rattle.sheet_rules.specs.Form.{same_bytes, check_header, check_counts, check_length, check_value, check_bound, check_rule, check_zero_rule, check_move, check_fields, check_limits}
-use Rattle.congruence_rules.specs.Congruence.{total, first_solution, all_below, allowed, eight, given, counts_left}
-use Rattle.access_rules.specs.Access.{leads_into, or_empty, way_to}
-use Rattle.separation_rules.specs.Separation.{parts_charts, evidence}
-use Rattle.sheet_rules.specs.Check.{check_label, overlap, check_overlap, check_start, every, lands, check_landing, sheet_check}
+use Rattle.model.specs.Sheet.{Move, Barred, Open, Region, Sheet, sheet_reading}
+use Rattle.model.specs.Blocks.{blocks, chart_of, box_list_of}
+use Rattle.model.specs.ChartDepth.{depth_of, depth_limit}
+use Rattle.sheet_rules.specs.Decode.{decode}
+use Rattle.congruence_rules.specs.Congruence.{counts_left}
+use Rattle.access_rules.specs.Access.{way_to}
+use Rattle.separation_rules.specs.Separation.{evidence}
+use Rattle.sheet_rules.specs.Check.{sheet_check}
 
 -- one example: what is computed, and what document 01 says it is
 pub data Row : Type 0 where
@@ -54,22 +41,22 @@ pub data Row : Type 0 where
   -- a counter that goes round: modulus, start, wanted value and increments, and the eight counts, or no list where they are left as they were
   counts_row : ℕ → ℕ → ℕ → List ℕ → List ℕ → Row
 
-pub same_z : ℤ → ℤ → Bool
+unfoldable pub same_z : ℤ → ℤ → Bool
 same_z a b = le_z a b && le_z b a
 
-pub same_word : Option (List ℕ) → Option (List ℕ) → Bool
+unfoldable pub same_word : Option (List ℕ) → Option (List ℕ) → Bool
 same_word none none = true
 same_word none (some w) = false
 same_word (some v) none = false
 same_word (some v) (some w) = same_numbers v w
 
-pub same_checked : Checked → Checked → Bool
+unfoldable pub same_checked : Checked → Checked → Bool
 same_checked Fine Fine = true
 same_checked Fine (Refused n p) = false
 same_checked (Refused m q) Fine = false
 same_checked (Refused m q) (Refused n p) = eqb m n && eqb q p
 
-pub test : Row → Bool
+unfoldable pub test : Row → Bool
 test (inverse_row f b r q) = same_z (inverse f b r).low q.low && same_z (inverse f b r).high q.high
 test (chart_row s l) = same_numbers (chart_of s) l
 test (accepted_row s l) = same_checked (sheet_check s) Fine && same_numbers (chart_of (decode s)) l
@@ -82,34 +69,34 @@ test (part_row c d o) = same_word (evidence c d) o
 test (counts_row m s w xs l) = same_numbers (counts_left m s w xs []) l
 
 -- every row passes
-pub passes : List Row → Bool
+unfoldable pub passes : List Row → Bool
 passes [] = true
 passes (r ∷ l) = test r && passes l
 
 -- a chart by its number of actions, its number of blocks and its records
-pub chart : ℕ → ℕ → List ℕ → List ℕ
+unfoldable pub chart : ℕ → ℕ → List ℕ → List ℕ
 chart actions blocks records = 66 ∷ 67 ∷ 72 ∷ 1 ∷ 0 ∷ actions ∷ blocks ∷ records
 
 -- sheets of one counter, one action and one state: each region has a label, bounds and a move
-pub region : ℕ → ℤ → ℤ → Move → Region
+unfoldable pub region : ℕ → ℤ → ℤ → Move → Region
 region label low high move = record { label = label; box = record { state = 0; ranges = (record { low = low; high = high }) ∷ [] }; moves = move ∷ [] }
 
 -- the same with a move for each of two actions
-pub two_moves : ℕ → ℤ → ℤ → Move → Move → Region
+unfoldable pub two_moves : ℕ → ℤ → ℤ → Move → Move → Region
 two_moves label low high move other = record { label = label; box = (region label low high move).box; moves = move ∷ other ∷ [] }
 
-pub carry : ℤ → ℤ → Move
+unfoldable pub carry : ℤ → ℤ → Move
 carry factor offset = Open 0 (Carry 0 factor offset ∷ [])
 
-pub sheet : List Region → ℤ → Sheet
+unfoldable pub sheet : List Region → ℤ → Sheet
 sheet regions start = record { counters = 1; actions = 1; regions = regions; start = record { state = 0; values = start ∷ [] } }
 
 -- the sheet of 43 bytes
-pub first : Sheet
+unfoldable pub first : Sheet
 first = sheet (region 10 (pos 0) (pos 7) (carry (pos 2) (pos 1)) ∷ region 20 (pos 8) (pos 15) Barred ∷ []) (pos 2)
 
 -- its bytes
-pub bytes : List ℕ
+unfoldable pub bytes : List ℕ
 bytes =
     77 ∷ 83 ∷ 72 ∷ 1 ∷ 0 ∷ 1 ∷ 1 ∷ 2 ∷ 0 ∷ 2 ∷ 0
     ∷ 10 ∷ 0 ∷ 0 ∷ 0 ∷ 0 ∷ 7 ∷ 0 ∷ 1 ∷ 0 ∷ 1 ∷ 0 ∷ 2 ∷ 1 ∷ 0 ∷ 0 ∷ 0
@@ -117,7 +104,7 @@ bytes =
     ∷ []
 
 -- the same as version 2
-pub wide_bytes : List ℕ
+unfoldable pub wide_bytes : List ℕ
 wide_bytes =
     77 ∷ 83 ∷ 72 ∷ 2 ∷ 0 ∷ 1 ∷ 1 ∷ 2 ∷ 0 ∷ 2 ∷ 0 ∷ 0 ∷ 0
     ∷ 10 ∷ 0 ∷ 0 ∷ 0 ∷ 0 ∷ 0 ∷ 0 ∷ 7 ∷ 0 ∷ 0 ∷ 0 ∷ 1 ∷ 0 ∷ 1 ∷ 0 ∷ 2 ∷ 1 ∷ 0 ∷ 0 ∷ 0
@@ -125,20 +112,20 @@ wide_bytes =
     ∷ []
 
 -- bytes with others from a place on
-pub changed : List ℕ → ℕ → List ℕ → List ℕ
+unfoldable pub changed : List ℕ → ℕ → List ℕ → List ℕ
 changed s at [] = s
 changed s at (b ∷ l) = changed (set s at b) (suc at) l
 
 -- factor -1, offset -1 on one region -8..7
-pub mirror : Sheet
+unfoldable pub mirror : Sheet
 mirror = sheet (region 10 (negsuc 7) (pos 7) (carry (negsuc 0) (negsuc 0)) ∷ []) (pos 2)
 
 -- 0..1000 by factor 2; 1001..2000 barred; start 0
-pub doubling : Sheet
+unfoldable pub doubling : Sheet
 doubling = sheet (region 10 (pos 0) (pos 1000) (carry (pos 2) (pos 0)) ∷ region 20 (pos 1001) (pos 2000) Barred ∷ []) (pos 0)
 
 -- a counter from 0 to 3, to which the first action adds 1 and the second 2, where that is not too much
-pub steps : Sheet
+unfoldable pub steps : Sheet
 steps =
     record {
       counters = 1;
@@ -150,10 +137,10 @@ steps =
       start = record { state = 0; values = pos 0 ∷ [] };
     }
 
-pub range : ℤ → ℤ → Range
+unfoldable pub range : ℤ → ℤ → Range
 range low high = record { low = low; high = high }
 
-pub table : List Row
+unfoldable pub table : List Row
 table =
     -- P1
     chart_row first (66 ∷ 67 ∷ 72 ∷ 1 ∷ 0 ∷ 1 ∷ 3 ∷ 10 ∷ 0 ∷ 1 ∷ 10 ∷ 0 ∷ 2 ∷ 20 ∷ 0 ∷ 255 ∷ [])
@@ -227,7 +214,3 @@ table =
     ∷ counts_row 12 1 6 (8 ∷ 4 ∷ []) []
     ∷ counts_row 12 1 12 (8 ∷ 3 ∷ []) []
     ∷ []
-
-pub worked_examples : T (passes table)
-unfolding passes test table same_z same_word same_checked chart same_numbers same_index same_reading parts_charts evidence block_named chart_step chart_system chart_reading bytes wide_bytes changed region two_moves carry sheet first mirror doubling steps range smaller larger contains meet size floor_by floor ceiling inverse split bits_of collect after entry written earliest first_barred reading place known added visited visited_at visited_next explore within in_box place_in region_number region_of applied updated landing moved step sheet_system sheet_reading emptied cut cuts preimage narrowed class_box volume volumes configurations class_of same_class blocks target_byte chart_record chart_of range_bytes box_record box_list_of joined unsigned_at signed_of signed_at vacant run and_then demand numbers numbers_in prefixed values_in members version_of wide bound_size offset_limit move_size region_size start_place start_value region_place label_at state_at low_place high_place move_place rule_place factor_of offset_of rule_of move_of range_at box_at move_at region_at start_of decode same_bytes check_header check_counts check_length check_value check_bound check_rule check_zero_rule check_move check_fields check_limits check_label overlap check_overlap check_start every lands check_landing sheet_check count least counting.numbers counting.has counting.classes record_at label_of target_of same_target refines round_class parts depth_of label_count depth_limit total lists_below first_that first_solution all_below allowed eight given counts_left ended shorter_lists leads_into or_empty way_to
-worked_examples = tt

@@ -5,14 +5,18 @@ use Rattle.std.proofs.Math.Nat.{div-div-eq-div-mul}
 use Rattle.std.proofs.Math.Arith.{digits_div, mod-mul}
 use Rattle.std.specs.Int.Signed.{lt_z, non_neg}
 use Rattle.std.specs.Int.{w64}
-use Rattle.integers.specs.LittleEndian.{Holds, split, bits_of, length_split}
-use Rattle.integers.specs.Order.{up, dn, le_in, lt_in, lt_z_true, lt_z_false, add_parts, up_neg, dn_neg, fits_out}
-use Rattle.systems.specs.Lists.{collect, length_collect}
+use Rattle.integers.specs.LittleEndian.{Holds, split, bits_of}
+use Rattle.integers.proofs.LittleEndian.{length_split}
+use Rattle.integers.specs.Order.{up, dn}
+use Rattle.integers.proofs.Order.{le_in, lt_in, lt_z_true, lt_z_false, add_parts, up_neg, dn_neg, fits_out}
+use Rattle.systems.specs.Lists.{collect}
+use Rattle.systems.proofs.Lists.{length_collect}
 use Rattle.answer_rules.specs.Run.{overwrite}
 use Rattle.model.specs.Blocks.{signed_bytes, range_bytes}
 use Rattle.refinement.specs.Completed.{box_bytes, table_boxes}
 use Rattle.sheet_bytes.specs.declared.Shape.{Shape}
-use Rattle.sheet_rules.specs.Shape.{TwoOrFour, width_few, bounds_le}
+use Rattle.sheet_rules.specs.Shape.{TwoOrFour}
+use Rattle.sheet_rules.proofs.Shape.{width_few, bounds_le}
 use Rattle.sheet_bytes.specs.Three.{firsts, ranges_meant, box_meant}
 use Rattle.table_rules.specs.Arrays.{range_in, ranges_in, state_in, box_in}
 use Rattle.table_rules.specs.Meaning.{row_in}

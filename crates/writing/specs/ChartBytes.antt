@@ -1,8 +1,10 @@
 -- The bytes of the chart as the arrays give them, and that they are those of the table's chart.
 use Rattle.std.specs.Prelude.{◌≡◌, refl, List, [], ◌∷◌, ◌++◌, ℕ, ◌+◌, ◌*◌, ◌/◌, ◌%◌, ◌≤◌, ◌<◌, length, get_or, drop}
 use Rattle.std.proofs.Common.{sym, ap, ◌∙◌, add-zero, mod-eq_of_lt, arith, length-append, get_or-drop}
-use Rattle.integers.specs.LittleEndian.{Bytes, split, joined, unsigned_at, length_split}
-use Rattle.systems.specs.Lists.{collect, length_collect, length_each}
+use Rattle.integers.specs.LittleEndian.{Bytes, split, joined, unsigned_at}
+use Rattle.integers.proofs.LittleEndian.{length_split}
+use Rattle.systems.specs.Lists.{collect}
+use Rattle.systems.proofs.Lists.{length_collect, length_each}
 use Rattle.answer_rules.specs.Run.{overwrite}
 use Rattle.model.specs.Blocks.{chart_mark}
 use Rattle.sheet_rules.specs.Layout.{region_place, label_at}

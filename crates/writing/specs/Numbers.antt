@@ -5,7 +5,8 @@ use Rattle.model.specs.Sheet.{Sheet, WellFormed}
 use Rattle.refinement.specs.SheetTable.{Row, Completed}
 use Rattle.refinement.specs.Numbering.{walk}
 use Rattle.refinement.specs.Walk.{Numbered, walking}
-use Rattle.refinement.specs.Ordering.{Ordering, ordering_first, ordering_row, ordering_old, ordering_room, ordering_new, ordering_next, ordering_done}
+use Rattle.refinement.specs.Ordering.{Ordering}
+use Rattle.refinement.proofs.Ordering.{ordering_first, ordering_row, ordering_old, ordering_room, ordering_new, ordering_next, ordering_done}
 use Rattle.table_rules.specs.Arrays.{target_in}
 
 -- entry k of an array

@@ -5,24 +5,28 @@ use Rattle.std.proofs.Common.{◌∙◌, arith}
 use mathlib.Core.List.{List, ◌∷◌, ◌++◌}
 use Rattle.integers.specs.declared.Range.{Range}
 use Rattle.integers.specs.LittleEndian.{Bytes, Holds, split}
-use Rattle.systems.specs.Lists.{collect, collect_ext}
+use Rattle.systems.specs.Lists.{collect}
+use Rattle.systems.proofs.Lists.{collect_ext}
 use Rattle.model.specs.Sheet.{Configuration, Region, region_number, region_of, Covered, Each, each_more}
 use Rattle.model.specs.Blocks.{chart_mark, chart_of, box_list_of}
-use Rattle.model.specs.Boxes.{fits_ordered, inside_each}
-use Rattle.model.specs.BoxList.{RangeHeld, inside_held}
+use Rattle.model.proofs.Boxes.{fits_ordered, inside_each}
+use Rattle.model.specs.BoxList.{RangeHeld}
+use Rattle.model.proofs.BoxList.{inside_held}
 use Rattle.refinement.specs.Numbering.{walk}
 use Rattle.refinement.specs.Walk.{Numbered}
-use Rattle.refinement.specs.SheetTable.{row_fits}
-use Rattle.refinement.specs.Completed.{row_record, table_chart, table_boxes, completed_in, completed_chart, completed_boxes}
+use Rattle.refinement.proofs.SheetTable.{row_fits}
+use Rattle.refinement.specs.Completed.{row_record, table_chart, table_boxes}
+use Rattle.refinement.proofs.Completed.{completed_in, completed_chart, completed_boxes}
 use Rattle.sheet_bytes.specs.declared.Shape.{Shape}
 use Rattle.sheet_bytes.specs.declared.Ranges.{Ranges}
 use Rattle.sheet_rules.specs.Layout.{counters_of, bound_size, label_at}
 use Rattle.sheet_rules.specs.Decode as Decode
 use Rattle.sheet_rules.specs.Decode.{decode, range_at, box_at}
-use Rattle.sheet_rules.specs.Listed.{each_listed, range_held}
+use Rattle.sheet_rules.proofs.Listed.{each_listed, range_held}
 use Rattle.sheet_bytes.specs.Three.{firsts, ranges_meant, config_meant}
 use Rattle.table_rules.specs.Arrays.{range_in, ranges_in, config_in, target_in}
-use Rattle.table_rules.specs.Meaning.{Ready, row_in, region_listed, covered_few}
+use Rattle.table_rules.specs.Meaning.{Ready, row_in}
+use Rattle.table_rules.proofs.Meaning.{region_listed, covered_few}
 use Rattle.table_passes.specs.State.{counters_few, actions_decoded}
 use Rattle.table_passes.specs.Steps.{Table}
 use Rattle.writing.specs.Numbers.{entry_in, Walkable}

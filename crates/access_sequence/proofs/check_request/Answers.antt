@@ -1,4 +1,4 @@
-use Rattle.answer_rules.specs.Stages.{stop, go_on}
+use Rattle.answer_rules.proofs.Stages.{stop, go_on}
 use Rattle.access_rules.specs.Access.{request_checks}
 use Rattle.access_sequence.proofs.check_request.Goals as goal
 

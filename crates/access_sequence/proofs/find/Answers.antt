@@ -1,6 +1,6 @@
 use mathlib.Core.Path.{sym}
 use lib.Seq.{length-take-le}
-use Rattle.access_rules.specs.Machine.{charted, front_counted, front_chart, front_asks, front_way, way_refused}
+use Rattle.access_rules.proofs.Machine.{charted, front_counted, front_chart, front_asks, front_way, way_refused}
 use Rattle.access_sequence.proofs.find.Goals as goal
 
 pub chart_length-length-requires : goal.chart_length-length-requires

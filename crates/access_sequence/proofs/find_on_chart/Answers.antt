@@ -1,6 +1,6 @@
 use lib.ListN.{length}
 use Rattle.model.specs.Chart.{blocks_of}
-use Rattle.access_rules.specs.Machine.{request_by, request_passed, accesses_done, accesses_refused}
+use Rattle.access_rules.proofs.Machine.{request_by, request_passed, accesses_done, accesses_refused}
 use Rattle.access_sequence.proofs.find_on_chart.Goals as goal
 
 pub write_first_word-length-requires : goal.write_first_word-length-requires

@@ -1,4 +1,4 @@
-use Rattle.answer_rules.specs.Stages.{demand_passed, demand_failed}
+use Rattle.answer_rules.proofs.Stages.{demand_passed, demand_failed}
 use Rattle.answers.proofs.demanded.Goals as goal
 
 pub returns-then-test : goal.returns-then-test

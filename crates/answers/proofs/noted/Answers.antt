@@ -1,4 +1,4 @@
-use Rattle.answer_rules.specs.Walk.{noted_known, noted_barred, noted_open}
+use Rattle.answer_rules.proofs.Walk.{noted_known, noted_barred, noted_open}
 use Rattle.answers.proofs.noted.Goals as goal
 
 pub returns-in_default : goal.returns-in_default

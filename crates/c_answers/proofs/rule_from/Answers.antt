@@ -2,7 +2,7 @@ use mathlib.Core.Path.{◌≡◌}
 use native.Mathlib.Omega.{arith}
 use mir.Syntax.{w64}
 use mir.ValLaws.{to_z-of_z}
-use Rattle.c_answers.specs.Exports.{from_carry, from_other}
+use Rattle.c_answers.proofs.Exports.{from_carry, from_other}
 use Rattle.c_answers.proofs.rule_from.Goals as goal
 
 pub returns-then-kind-eq1 : goal.returns-then-kind-eq1

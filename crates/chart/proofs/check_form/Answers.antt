@@ -1,7 +1,8 @@
 use mathlib.Core.Path.{◌≡◌, sym, ◌∙◌}
 use Prim.Native.Nat.{ℕ}
 use native.Mathlib.Omega.{arith}
-use Rattle.answer_rules.specs.Stages.{and_then, stop, go_on}
+use Rattle.answer_rules.specs.Stages.{and_then}
+use Rattle.answer_rules.proofs.Stages.{stop, go_on}
 use Rattle.chart_bytes.specs.HeaderLaws.{header_passed}
 use Rattle.chart_form.specs.Form.{limits_check, numbers_check, bars_check}
 use Rattle.chart.specs.Check.{form_check}

@@ -1,6 +1,6 @@
 use mathlib.Core.Path.{sym, ap, ◌∙◌}
 use Prim.Native.Nat.{ℕ}
-use Rattle.answer_rules.specs.Stages.{passed, handed}
+use Rattle.answer_rules.proofs.Stages.{passed, handed}
 use Rattle.answer_rules.specs.Run.{run_checks}
 use Rattle.model.specs.Chart.{actions_of}
 use Rattle.chart.specs.RunChart.{chart_run_check}

@@ -1,6 +1,6 @@
 use native.Mathlib.Omega.{arith}
 use Prim.Native.Nat.{◌+◌, ◌*◌}
-use Rattle.answer_rules.specs.Stages.{stop, go_on}
+use Rattle.answer_rules.proofs.Stages.{stop, go_on}
 use Rattle.sheet_bytes.specs.Fields.{pairs_small}
 use Rattle.writing.specs.Stored.{rows_small}
 use Rattle.making_rules.specs.Making.{rooms_for}

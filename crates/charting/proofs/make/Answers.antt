@@ -4,7 +4,7 @@ use Rattle.sheet_rules.specs.Layout.{bound_size}
 use Rattle.sheet_rules.specs.Decode.{decode}
 use Rattle.sheet_bytes.specs.Three.{shape_of}
 use Rattle.sheet_bytes.specs.Fields.{header_within}
-use Rattle.making_rules.specs.Making.{makes_refused, makes_by, sheet_refused, sheet_passed}
+use Rattle.making_rules.proofs.Making.{makes_refused, makes_by, sheet_refused, sheet_passed}
 use Rattle.charting.specs.Tabled.{accepted_ready}
 use Rattle.charting.proofs.make.Goals as goal
 

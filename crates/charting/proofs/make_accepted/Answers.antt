@@ -1,7 +1,7 @@
 use lib.ListN.{length}
 use Rattle.sheet_rules.specs.Layout.{bound_size}
 use Rattle.sheet_rules.specs.Decode.{decode}
-use Rattle.making_rules.specs.Making.{makes_refused, many_blocks}
+use Rattle.making_rules.proofs.Making.{makes_refused, many_blocks}
 use Rattle.charting.specs.Tabled.{answered_many, answered_table}
 use Rattle.charting.proofs.make_accepted.Goals as goal
 

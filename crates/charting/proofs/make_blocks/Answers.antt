@@ -4,7 +4,7 @@ use lib.ListN.{length}
 use Rattle.sheet_rules.specs.Layout.{bound_size}
 use Rattle.sheet_rules.specs.Decode.{decode}
 use Rattle.sheet_bytes.specs.Fields.{small}
-use Rattle.making_rules.specs.Making.{makes_refused, makes_done, rooms_fit}
+use Rattle.making_rules.proofs.Making.{makes_refused, makes_done, rooms_fit}
 use Rattle.charting.specs.Tabled.{rooms_checked, table_blocks}
 use Rattle.charting.proofs.make_blocks.Goals as goal
 

@@ -1,5 +1,5 @@
 use Rattle.integers.specs.LittleEndian.{Bytes}
-use Rattle.making_rules.specs.Proofs.{demand_2_of, demand_3_of}
+use Rattle.making_rules.proofs.Proofs.{demand_2_of, demand_3_of}
 use Rattle.claims.proofs.make_two.Goals as goal
 
 pub returns : goal.returns

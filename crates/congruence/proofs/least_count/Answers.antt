@@ -2,7 +2,7 @@ use mathlib.Core.Path.{sym}
 use Prim.Native.Nat.{◌*◌, ◌/◌}
 use native.Mathlib.Omega.{arith}
 use native.Mathlib.Nat.{mod-lt, div-le_self}
-use Rattle.congruence_rules.specs.Greedy.{bezout_least}
+use Rattle.congruence_rules.proofs.Greedy.{bezout_least}
 use Rattle.congruence.specs.Machine.{product_fits, quotient_some}
 use Rattle.congruence.proofs.least_count.Goals as goal
 

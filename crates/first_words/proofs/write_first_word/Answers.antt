@@ -1,7 +1,7 @@
 use native.Mathlib.Omega.{arith}
 use lib.ListN.{length}
 use Rattle.noted_words.specs.Words.{noted_word}
-use Rattle.first_words.specs.Notes.{noted_falling, noted_along, noted_room}
+use Rattle.first_words.proofs.Notes.{noted_falling, noted_along, noted_room}
 use Rattle.first_words.proofs.write_first_word.Goals as goal
 
 pub word_length-count-requires : goal.word_length-count-requires

@@ -1,6 +1,6 @@
 use Rattle.std.proofs.Common.{arith}
-use Rattle.integers.specs.Range.{within_add, within_mul}
-use Rattle.integers.specs.Machine.{within_fits, within_back}
+use Rattle.integers.proofs.RangeLaws.{within_add, within_mul}
+use Rattle.integers.proofs.Machine.{within_fits, within_back}
 use Rattle.integer_cases.proofs.carried.Goals as goal
 
 pub overflow_mul-result : goal.overflow_mul-result

@@ -1,7 +1,7 @@
 use native.Mathlib.Omega.{arith}
 use lib.ListN.{length}
-use Rattle.log_rules.specs.Theorems.{rest_apart, rest_second, rest_first}
-use Rattle.log_rules.specs.Machine.{index_within, of_first_lem, of_second_lem}
+use Rattle.log_rules.proofs.Theorems.{rest_apart, rest_second, rest_first}
+use Rattle.log_rules.proofs.Machine.{index_within, of_first_lem, of_second_lem}
 use Rattle.logs.proofs.rest.Goals as goal
 
 pub returns-then-at-lesser : goal.returns-then-at-lesser

@@ -1,4 +1,4 @@
-use Rattle.log_rules.specs.Machine.{part_from}
+use Rattle.log_rules.proofs.Machine.{part_from}
 use Rattle.logs.proofs.tail.Goals as goal
 
 pub returns : goal.returns

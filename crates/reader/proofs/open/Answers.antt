@@ -1,5 +1,5 @@
 use Rattle.std.proofs.Common.{refl}
-use Rattle.reader_rules.specs.Steps.{opened_with}
+use Rattle.reader_rules.proofs.Steps.{opened_with}
 use Rattle.reader.proofs.open.Goals as goal
 
 pub returns : goal.returns

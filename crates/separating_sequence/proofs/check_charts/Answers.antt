@@ -1,6 +1,6 @@
 use mathlib.Core.Path.{ap, ◌∙◌}
 use lib.ListN.{length}
-use Rattle.answer_rules.specs.Stages.{stop, go_on}
+use Rattle.answer_rules.proofs.Stages.{stop, go_on}
 use Rattle.separation_rules.specs.Separation.{raised_by, charts_check}
 use Rattle.separating_sequence.proofs.check_charts.Goals as goal
 

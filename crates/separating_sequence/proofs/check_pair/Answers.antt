@@ -1,5 +1,5 @@
 use native.Mathlib.Omega.{arith}
-use Rattle.answer_rules.specs.Stages.{stop, go_on}
+use Rattle.answer_rules.proofs.Stages.{stop, go_on}
 use Rattle.separating_sequence.specs.Machine.{charts_shaped, counts_by, room_by}
 use Rattle.separation_rules.specs.Separation.{request_check, pair_check}
 use Rattle.separating_sequence.proofs.check_pair.Goals as goal

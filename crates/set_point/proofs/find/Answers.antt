@@ -2,7 +2,7 @@ use mathlib.Core.Path.{sym, ◌∙◌}
 use mir.Syntax.{w64}
 use mir.Val.{SFits}
 use mir.ValLaws.{to_z-of_z}
-use Rattle.set_point_rules.specs.Theorems.{allowed_limits}
+use Rattle.set_point_rules.proofs.Theorems.{allowed_limits}
 use Rattle.set_point.specs.Machine.{point_set, point_beyond, point_divided}
 use Rattle.std.proofs.Common.{rules}
 use Rattle.set_point.proofs.find.Goals as goal

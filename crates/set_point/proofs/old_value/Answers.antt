@@ -2,9 +2,10 @@ use mathlib.Core.Path.{sym, ◌∙◌}
 use lib.Dec.{lit≤}
 use lib.IntN.{pos}
 use lib.Signed.{◌<ℤ◌}
-use Rattle.integers.specs.Order.{ints}
-use Rattle.integers.specs.Machine.{back64, within_read}
-use Rattle.integers.specs.Inverse.{by_sign}
+use Rattle.integers.proofs.Order.{ints}
+use Rattle.integers.specs.Machine.{back64}
+use Rattle.integers.proofs.Machine.{within_read}
+use Rattle.integers.proofs.Inverse.{by_sign}
 use Rattle.set_point.specs.Machine.{high_old, low_old}
 use Rattle.set_point.proofs.old_value.Goals as goal
 

@@ -1,7 +1,7 @@
 use mathlib.Core.Path.{sym, ◌∙◌}
-use Rattle.answer_rules.specs.Stages.{stop, go_on}
+use Rattle.answer_rules.proofs.Stages.{stop, go_on}
 use Rattle.sheet_rules.specs.Check.{sheet_check}
-use Rattle.sheet_rules.specs.Accepted.{shaped}
+use Rattle.sheet_rules.proofs.Accepted.{shaped}
 use Rattle.sheet.specs.Whole.{contents_check, header_long, counts_few, read_shape}
 use Rattle.sheet.proofs.check.Goals as goal
 

@@ -1,6 +1,6 @@
 use mathlib.Core.Path.{sym, ◌∙◌}
-use Rattle.answer_rules.specs.Stages.{stop, go_on}
-use Rattle.sheet_rules.specs.Fits.{limits_fields}
+use Rattle.answer_rules.proofs.Stages.{stop, go_on}
+use Rattle.sheet_rules.proofs.Fits.{limits_fields}
 use Rattle.sheet.specs.Whole.{contents_check}
 use Rattle.sheet.proofs.check_contents.Goals as goal
 

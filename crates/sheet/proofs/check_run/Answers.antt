@@ -1,11 +1,11 @@
 use mathlib.Core.Path.{sym, ap, ◌∙◌}
 use native.Mathlib.Omega.{arith}
-use Rattle.answer_rules.specs.Stages.{stop, go_on}
+use Rattle.answer_rules.proofs.Stages.{stop, go_on}
 use Rattle.answer_rules.specs.Run.{run_checks}
 use Rattle.sheet_bytes.specs.declared.Shape.{Shape}
 use Rattle.sheet_rules.specs.Layout.{actions_of}
-use Rattle.sheet_rules.specs.Shape.{header_end}
-use Rattle.sheet_rules.specs.Accepted.{stages}
+use Rattle.sheet_rules.proofs.Shape.{header_end}
+use Rattle.sheet_rules.proofs.Accepted.{stages}
 use Rattle.sheet_rules.specs.RunSheet.{sheet_run_check}
 use Rattle.sheet.proofs.check_run.Goals as goal
 

@@ -1,11 +1,11 @@
 use mathlib.Core.Path.{sym, ◌∙◌}
 use native.Mathlib.Omega.{arith}
 use lib.ListN.{length}
-use Rattle.answer_rules.specs.Walk.{run_done, run_refused}
+use Rattle.answer_rules.proofs.Walk.{run_done, run_refused}
 use Rattle.model.specs.Sheet.{sheet_reading}
 use Rattle.sheet_rules.specs.Decode.{decode}
-use Rattle.sheet_rules.specs.Shape.{header_end}
-use Rattle.sheet_rules.specs.Accepted.{stages}
+use Rattle.sheet_rules.proofs.Shape.{header_end}
+use Rattle.sheet_rules.proofs.Accepted.{stages}
 use Rattle.sheet.specs.Whole.{read_shape}
 use Rattle.sheet.specs.Walk.{run_passed}
 use Rattle.sheet_rules.specs.RunSheet.{sheet_ran, sheet_left}

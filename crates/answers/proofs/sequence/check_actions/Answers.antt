@@ -4,8 +4,10 @@ use Prim.Native.Nat.{ℕ, ◌+◌, ◌-◌, ◌≤◌, ◌<◌}
 use native.Mathlib.Omega.{arith}
 use lib.ListN.{length}
 use Rattle.answer_rules.specs.declared.Checked.TheVariants.{Fine}
-use Rattle.answer_rules.specs.Stages.{each, each_none, each_more, each_first, loop_end}
-use Rattle.answer_rules.specs.Sequence.{action_check, action_good, action_bad}
+use Rattle.answer_rules.specs.Stages.{each}
+use Rattle.answer_rules.proofs.Stages.{each_none, each_more, each_first, loop_end}
+use Rattle.answer_rules.specs.Sequence.{action_check}
+use Rattle.answer_rules.proofs.Sequence.{action_good, action_bad}
 use Rattle.answers.proofs.sequence.check_actions.Goals as goal
 
 pub loop-i-init : goal.loop-i-init

@@ -1,4 +1,4 @@
-use Rattle.answer_rules.specs.Sequence.{sequence_long, sequence_wrong, sequence_short, sequence_good}
+use Rattle.answer_rules.proofs.Sequence.{sequence_long, sequence_wrong, sequence_short, sequence_good}
 use Rattle.answers.proofs.sequence.check_sequence.Goals as goal
 
 pub returns-then-actions-gt4096 : goal.returns-then-actions-gt4096

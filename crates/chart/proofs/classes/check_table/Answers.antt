@@ -2,8 +2,9 @@ use mathlib.Core.Path.{◌≡◌, sym}
 use Prim.Native.Nat.{◌-◌, ◌≤◌}
 use native.Mathlib.Omega.{arith}
 use Rattle.answer_rules.specs.declared.Checked.TheVariants.{Fine}
-use Rattle.answer_rules.specs.Stages.{each, each_none, each_more, each_first}
-use Rattle.answer_rules.specs.Loops.{each_ended}
+use Rattle.answer_rules.specs.Stages.{each}
+use Rattle.answer_rules.proofs.Stages.{each_none, each_more, each_first}
+use Rattle.answer_rules.proofs.Loops.{each_ended}
 use Rattle.model.specs.Chart.{blocks_of}
 use Rattle.chart_bytes.specs.Classes.{entry}
 use Rattle.chart.specs.Check.{class_check}

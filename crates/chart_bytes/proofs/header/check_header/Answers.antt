@@ -1,5 +1,6 @@
 use mathlib.Core.Path.{sym, ◌∙◌}
-use Rattle.answer_rules.specs.Stages.{and_then, passed, handed}
+use Rattle.answer_rules.specs.Stages.{and_then}
+use Rattle.answer_rules.proofs.Stages.{passed, handed}
 use Rattle.chart_bytes.specs.Header.{count_check, length_check, header_check}
 use Rattle.chart_bytes.specs.HeaderLaws.{mark_passed, counts_passed}
 use Rattle.chart_bytes.proofs.header.check_header.Goals as goal

@@ -1,5 +1,5 @@
 use lib.Dec.{ltb}
-use Rattle.answer_rules.specs.Stages.{stop, go_on, demand_at}
+use Rattle.answer_rules.proofs.Stages.{stop, go_on, demand_at}
 use Rattle.chart_form.specs.Form.{fields_check}
 use Rattle.chart_form.proofs.limits.check_record.Goals as goal
 

@@ -1,5 +1,6 @@
 use mathlib.Core.Path.{sym, ◌∙◌}
-use Rattle.answer_rules.specs.Stages.{each, passed, handed}
+use Rattle.answer_rules.specs.Stages.{each}
+use Rattle.answer_rules.proofs.Stages.{passed, handed}
 use Rattle.model.specs.Chart.{actions_of, next_in}
 use Rattle.chart_form.specs.Form.{order_check, number_check}
 use Rattle.chart_form.proofs.numbering.check_number.Goals as goal

@@ -1,5 +1,5 @@
 use native.Mathlib.Omega.{arith}
-use Rattle.integers.specs.Range.{range_wider}
+use Rattle.integers.proofs.RangeLaws.{range_wider}
 use Rattle.depth_bound.proofs.widths.wider.Goals as goal
 
 pub count-n-requires : goal.count-n-requires

@@ -1,5 +1,5 @@
 use native.Mathlib.Omega.{arith}
-use Rattle.integers.specs.Bits.{four_bytes}
+use Rattle.integers.proofs.Bits.{four_bytes}
 use Rattle.machine_integers.proofs.bytes.four_at.Goals as goal
 
 pub returns : goal.returns

@@ -1,6 +1,6 @@
 use mir.Syntax.{w64}
 use mir.ValLaws.{to_z-of_z}
-use Rattle.integers.specs.Bits.{bits_low, bits_high, bits_fit}
+use Rattle.integers.proofs.Bits.{bits_low, bits_high, bits_fit}
 use Rattle.machine_integers.proofs.bytes.from_bits.Goals as goal
 
 pub overflow_sub-result : goal.overflow_sub-result

@@ -2,7 +2,7 @@ use mathlib.Core.Path.{◌∙◌}
 use mir.Syntax.{w64}
 use mir.Val.{SFits}
 use mir.ValLaws.{to_z-of_z}
-use Rattle.integers.specs.Bits.{signed_two}
+use Rattle.integers.proofs.Bits.{signed_two}
 use Rattle.std.proofs.Common.{rules}
 use Rattle.machine_integers.proofs.bytes.signed16.Goals as goal
 

@@ -2,7 +2,7 @@ use mathlib.Core.Path.{◌∙◌}
 use mir.Syntax.{w64}
 use mir.Val.{SFits}
 use mir.ValLaws.{to_z-of_z}
-use Rattle.integers.specs.Bits.{signed_four}
+use Rattle.integers.proofs.Bits.{signed_four}
 use Rattle.std.proofs.Common.{rules}
 use Rattle.machine_integers.proofs.bytes.signed32.Goals as goal
 

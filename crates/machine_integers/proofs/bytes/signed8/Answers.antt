@@ -2,7 +2,7 @@ use mathlib.Core.Path.{◌∙◌}
 use mir.Syntax.{w64}
 use mir.Val.{SFits}
 use mir.ValLaws.{to_z-of_z}
-use Rattle.integers.specs.Bits.{one_byte, signed_one}
+use Rattle.integers.proofs.Bits.{one_byte, signed_one}
 use Rattle.std.proofs.Common.{rules}
 use Rattle.machine_integers.proofs.bytes.signed8.Goals as goal
 

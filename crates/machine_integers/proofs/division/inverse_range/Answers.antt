@@ -3,10 +3,11 @@ use native.Mathlib.Omega.{arith}
 use mir.Syntax.{w64}
 use mir.Val.{SFits}
 use mir.ValLaws.{to_z-of_z}
-use Rattle.integers.specs.Range.{within_size, within_out}
-use Rattle.integers.specs.Machine.{back64, within_back}
-use Rattle.integers.specs.Inverse.{ends_inverse}
-use Rattle.integers.specs.Dividend.{wide_asked}
+use Rattle.integers.proofs.RangeLaws.{within_size, within_out}
+use Rattle.integers.specs.Machine.{back64}
+use Rattle.integers.proofs.Machine.{within_back}
+use Rattle.integers.proofs.Inverse.{ends_inverse}
+use Rattle.integers.proofs.Dividend.{wide_asked}
 use Rattle.std.proofs.Common.{rules}
 use Rattle.machine_integers.proofs.division.inverse_range.Goals as goal
 

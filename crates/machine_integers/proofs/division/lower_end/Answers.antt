@@ -2,12 +2,12 @@ use mathlib.Core.Path.{sym, subst}
 use lib.Dec.{lit≤}
 use lib.IntN.{pos, negsuc}
 use native.Mathlib.Omega.{arith}
-use Rattle.integers.specs.Range.{within_size, within_out}
-use Rattle.integers.specs.Machine.{within_back}
-use Rattle.integers.specs.Quotient.{bits_some}
+use Rattle.integers.proofs.RangeLaws.{within_size, within_out}
+use Rattle.integers.proofs.Machine.{within_back}
+use Rattle.integers.proofs.Quotient.{bits_some}
 use Rattle.integers.specs.Inverse.{LowerEnd}
-use Rattle.integers.specs.Cases.{low_pos_nonneg, low_pos_neg, low_neg_nonneg, low_neg_neg, lower_pos, lower_neg}
-use Rattle.integers.specs.Dividend.{dividend_fits, moved_fits, twice_fits, quotient_fits, moved_quotient_fits, quotient_read, moved_read, tested_nonneg, tested_below, tested_pos, tested_neg}
+use Rattle.integers.proofs.Cases.{low_pos_nonneg, low_pos_neg, low_neg_nonneg, low_neg_neg, lower_pos, lower_neg}
+use Rattle.integers.proofs.Dividend.{dividend_fits, moved_fits, twice_fits, quotient_fits, moved_quotient_fits, quotient_read, moved_read, tested_nonneg, tested_below, tested_pos, tested_neg}
 use Rattle.machine_integers.proofs.division.lower_end.Goals as goal
 
 pub overflow_sub-n : goal.overflow_sub-n

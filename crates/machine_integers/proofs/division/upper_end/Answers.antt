@@ -2,13 +2,14 @@ use mathlib.Core.Path.{sym, subst}
 use lib.Dec.{lit≤}
 use lib.IntN.{pos, negsuc, neg_ℤ}
 use native.Mathlib.Omega.{arith}
-use Rattle.integers.specs.Order.{up_neg, dn_neg}
-use Rattle.integers.specs.Range.{within_size, within_out, within_neg}
-use Rattle.integers.specs.Machine.{back64, within_back}
-use Rattle.integers.specs.Quotient.{bits_some}
+use Rattle.integers.proofs.Order.{up_neg, dn_neg}
+use Rattle.integers.proofs.RangeLaws.{within_size, within_out, within_neg}
+use Rattle.integers.specs.Machine.{back64}
+use Rattle.integers.proofs.Machine.{within_back}
+use Rattle.integers.proofs.Quotient.{bits_some}
 use Rattle.integers.specs.Inverse.{UpperEnd}
-use Rattle.integers.specs.Cases.{high_pos_nonneg, high_pos_neg, high_neg_nonneg, high_neg_neg, upper_pos, upper_neg}
-use Rattle.integers.specs.Dividend.{dividend_fits, moved_fits, twice_fits, quotient_fits, moved_quotient_fits, quotient_read, moved_read, tested_nonneg, tested_below, tested_pos, tested_neg}
+use Rattle.integers.proofs.Cases.{high_pos_nonneg, high_pos_neg, high_neg_nonneg, high_neg_neg, upper_pos, upper_neg}
+use Rattle.integers.proofs.Dividend.{dividend_fits, moved_fits, twice_fits, quotient_fits, moved_quotient_fits, quotient_read, moved_read, tested_nonneg, tested_below, tested_pos, tested_neg}
 use Rattle.machine_integers.proofs.division.upper_end.Goals as goal
 
 pub overflow_sub-n : goal.overflow_sub-n

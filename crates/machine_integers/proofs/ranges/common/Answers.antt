@@ -1,7 +1,7 @@
 use mir.Syntax.{w64}
 use mir.Val.{SFits}
 use mir.ValLaws.{to_z-of_z}
-use Rattle.integers.specs.Machine.{meet_parts}
+use Rattle.integers.proofs.Machine.{meet_parts}
 use Rattle.std.proofs.Common.{rules}
 use Rattle.machine_integers.proofs.ranges.common.Goals as goal
 

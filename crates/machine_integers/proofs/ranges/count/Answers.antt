@@ -2,7 +2,7 @@ use mir.Syntax.{w64}
 use mir.Val.{SFits}
 use mir.ValLaws.{to_z-of_z}
 use mir.Facts.{Fits-nat_abs}
-use Rattle.integers.specs.Machine.{difference_fits, last_fits, size_machine, size_vacant}
+use Rattle.integers.proofs.Machine.{difference_fits, last_fits, size_machine, size_vacant}
 use Rattle.std.proofs.Common.{rules}
 use Rattle.machine_integers.proofs.ranges.count.Goals as goal
 

@@ -1,6 +1,6 @@
 use mir.Syntax.{w64}
 use mir.ValLaws.{to_z-of_z}
-use Rattle.integers.specs.Machine.{larger_first, larger_second}
+use Rattle.integers.proofs.Machine.{larger_first, larger_second}
 use Rattle.machine_integers.proofs.ranges.larger_of.Goals as goal
 
 pub returns-then-a-b : goal.returns-then-a-b

@@ -3,7 +3,7 @@ use native.Mathlib.Omega.{arith}
 use mir.Syntax.{w64}
 use mir.Facts.{to_z_pos}
 use mir.ValLaws.{to_z-of_z}
-use Rattle.integers.specs.Quotient.{near_by, minus_number_fits}
+use Rattle.integers.proofs.Quotient.{near_by, minus_number_fits}
 use Rattle.machine_integers.proofs.ranges.near_zero.Goals as goal
 
 pub overflow_sub-low : goal.overflow_sub-low

@@ -1,6 +1,6 @@
 use mir.Syntax.{w64}
 use mir.ValLaws.{to_z-of_z}
-use Rattle.integers.specs.Machine.{smaller_first, smaller_second}
+use Rattle.integers.proofs.Machine.{smaller_first, smaller_second}
 use Rattle.machine_integers.proofs.ranges.smaller_of.Goals as goal
 
 pub returns-then-a-b : goal.returns-then-a-b

@@ -1,4 +1,4 @@
-use Rattle.reader_rules.specs.Steps.{block_as}
+use Rattle.reader_rules.proofs.Steps.{block_as}
 use Rattle.reader.proofs.steps.block_step.Goals as goal
 
 pub returns : goal.returns

@@ -3,7 +3,7 @@ use mathlib.Core.List.{List}
 use Prim.Native.Nat.{ℕ}
 use Rattle.reader_rules.specs.declared.Handed.TheVariants.{NoneLeft}
 use Rattle.reader_rules.specs.Reading.{none_step, no_targets}
-use Rattle.reader_rules.specs.Steps.{eight_none}
+use Rattle.reader_rules.proofs.Steps.{eight_none}
 use Rattle.reader.proofs.steps.none_step.Goals as goal
 
 pub returns : goal.returns

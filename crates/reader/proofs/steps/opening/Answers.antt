@@ -1,4 +1,4 @@
-use Rattle.reader_rules.specs.Steps.{opened_as}
+use Rattle.reader_rules.proofs.Steps.{opened_as}
 use Rattle.reader.proofs.steps.opening.Goals as goal
 
 pub returns : goal.returns

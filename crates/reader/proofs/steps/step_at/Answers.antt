@@ -1,6 +1,6 @@
 use mathlib.Core.Path.{sym, ◌∙◌}
 use Rattle.chart_bytes.specs.HeaderLaws.{header_passed}
-use Rattle.reader_rules.specs.Steps.{step_headless, step_block, step_past}
+use Rattle.reader_rules.proofs.Steps.{step_headless, step_block, step_past}
 use Rattle.std.proofs.Common.{rules}
 use Rattle.reader.proofs.steps.step_at.Goals as goal
 

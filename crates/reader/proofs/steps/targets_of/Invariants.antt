@@ -5,7 +5,7 @@ use native.Mathlib.Omega.{arith}
 use lib.ListN.{set}
 use Rattle.model.specs.Chart.{actions_of, target_of}
 use Rattle.reader_rules.specs.Reading.{eight_targets, targets_of}
-use Rattle.reader_rules.specs.Steps.{eight_none, eight_more}
+use Rattle.reader_rules.proofs.Steps.{eight_none, eight_more}
 use Rattle.reader.proofs.steps.targets_of.Given as goal
 
 abbrev pub invariant-loop-a : goal.invariant-loop-a

@@ -1,5 +1,5 @@
 use mathlib.Core.Path.{sym, ◌∙◌}
-use Rattle.sheet_rules.specs.Shape.{size_wide, size_narrow}
+use Rattle.sheet_rules.proofs.Shape.{size_wide, size_narrow}
 use Rattle.sheet_bytes.proofs.fields.bound_size.Goals as goal
 
 pub returns-then-is_wide : goal.returns-then-is_wide

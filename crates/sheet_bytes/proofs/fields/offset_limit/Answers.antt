@@ -1,5 +1,5 @@
 use mathlib.Core.Path.{sym, ◌∙◌}
-use Rattle.sheet_rules.specs.Shape.{limit_wide, limit_narrow}
+use Rattle.sheet_rules.proofs.Shape.{limit_wide, limit_narrow}
 use Rattle.sheet_bytes.proofs.fields.offset_limit.Goals as goal
 
 pub returns-then-is_wide : goal.returns-then-is_wide

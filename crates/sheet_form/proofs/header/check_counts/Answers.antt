@@ -1,5 +1,5 @@
 use native.Mathlib.Omega.{arith}
-use Rattle.answer_rules.specs.Stages.{stop, go_on, demand_by}
+use Rattle.answer_rules.proofs.Stages.{stop, go_on, demand_by}
 use Rattle.sheet_rules.specs.Form.{check_counts}
 use Rattle.sheet_form.proofs.header.check_counts.Goals as goal
 

@@ -1,6 +1,6 @@
 use mathlib.Core.Path.{ap, ◌∙◌}
 use borrow.Author.Tests.{not-true, not-false}
-use Rattle.answer_rules.specs.Stages.{demand_by}
+use Rattle.answer_rules.proofs.Stages.{demand_by}
 use Rattle.sheet_rules.specs.Layout.{version_of}
 use Rattle.sheet_rules.specs.Form.{from_to}
 use Rattle.sheet_form.specs.Header.{header_short, header_unmarked, header_marked}

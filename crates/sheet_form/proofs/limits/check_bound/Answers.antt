@@ -2,7 +2,7 @@ use native.Mathlib.Omega.{arith}
 use mir.Syntax.{w64}
 use mir.Val.{SFits}
 use mir.ValLaws.{to_z-of_z}
-use Rattle.answer_rules.specs.Stages.{stop, go_on}
+use Rattle.answer_rules.proofs.Stages.{stop, go_on}
 use Rattle.sheet_bytes.specs.Fields.{low_within, sheet_short}
 use Rattle.sheet_rules.specs.Form.{check_bound}
 use Rattle.sheet_form.specs.Limits.{low_stage, high_stage, order_stage}

@@ -1,4 +1,4 @@
-use Rattle.answer_rules.specs.Stages.{stop, go_on}
+use Rattle.answer_rules.proofs.Stages.{stop, go_on}
 use Rattle.sheet_rules.specs.Form.{check_limits}
 use Rattle.sheet_form.proofs.limits.check_limits.Goals as goal
 

@@ -1,7 +1,7 @@
 use mathlib.Core.Path.{◌∙◌}
 use native.Mathlib.Omega.{arith}
 use lib.ListN.{length}
-use Rattle.answer_rules.specs.Stages.{stop, go_on}
+use Rattle.answer_rules.proofs.Stages.{stop, go_on}
 use Rattle.sheet_bytes.specs.Fields.{move_some}
 use Rattle.sheet_rules.specs.Form.{check_move}
 use Rattle.sheet_form.specs.Limits.{move_zero, move_open}

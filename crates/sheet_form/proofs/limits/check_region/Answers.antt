@@ -1,5 +1,5 @@
 use lib.Dec.{ltb}
-use Rattle.answer_rules.specs.Stages.{stop, go_on, demand_at}
+use Rattle.answer_rules.proofs.Stages.{stop, go_on, demand_at}
 use Rattle.sheet_rules.specs.Form.{check_fields}
 use Rattle.sheet_form.specs.Limits.{check_moves}
 use Rattle.sheet_form.proofs.limits.check_region.Goals as goal

@@ -1,7 +1,7 @@
 use mir.Syntax.{w64}
 use mir.Val.{SFits}
 use mir.ValLaws.{to_z-of_z}
-use Rattle.answer_rules.specs.Stages.{stop, go_on, demand_by}
+use Rattle.answer_rules.proofs.Stages.{stop, go_on, demand_by}
 use Rattle.sheet_rules.specs.Form.{check_zero_rule}
 use Rattle.sheet_form.specs.Limits.{factor_read, offset_read}
 use Rattle.std.proofs.Common.{rules}

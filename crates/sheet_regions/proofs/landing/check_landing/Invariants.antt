@@ -3,7 +3,8 @@ use Prim.Native.Nat.{◌-◌, ◌≤◌, ◌<◌}
 use native.Mathlib.Omega.{arith}
 use borrow.Author.Tests.{not-true, not-false}
 use Rattle.answer_rules.specs.declared.Checked.TheVariants.{Fine}
-use Rattle.answer_rules.specs.Stages.{each, each_none, each_more}
+use Rattle.answer_rules.specs.Stages.{each}
+use Rattle.answer_rules.proofs.Stages.{each_none, each_more}
 use Rattle.sheet_rules.specs.Layout.{regions_of, actions_of}
 use Rattle.sheet_rules.specs.Check.{check_landing}
 use Rattle.sheet_regions.specs.Shares.{landings, lands_fine, lands_refused, landings_more, landings_all, landings_first}

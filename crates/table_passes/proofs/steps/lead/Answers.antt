@@ -2,8 +2,8 @@ use native.Mathlib.Omega.{arith}
 use Prim.Native.Nat.{◌+◌, ◌*◌}
 use mathlib.Core.Path.{refl, ◌∙◌}
 use Rattle.sheet_bytes.specs.Space.{land_three}
-use Rattle.table_rules.specs.Padding.{rules_safe}
-use Rattle.table_rules.specs.Growth.{row_few}
+use Rattle.table_rules.proofs.Padding.{rules_safe}
+use Rattle.table_rules.proofs.Growth.{row_few}
 use Rattle.table_passes.specs.State.{counters_some, counters_few, actions_few}
 use Rattle.table_passes.specs.Steps.{values_known, next_covered, placed, led_many}
 use Rattle.table_passes.proofs.steps.lead.Goals as goal

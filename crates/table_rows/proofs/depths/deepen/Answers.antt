@@ -1,6 +1,6 @@
 use native.Mathlib.Omega.{arith}
 use mathlib.Core.Logic.{inr}
-use Rattle.table_rules.specs.Depths.{deepened_left, deepened_to}
+use Rattle.table_rules.proofs.Depths.{deepened_left, deepened_to}
 use Rattle.table_rows.proofs.depths.deepen.Goals as goal
 
 pub returns-then-bounds-eq0 : goal.returns-then-bounds-eq0

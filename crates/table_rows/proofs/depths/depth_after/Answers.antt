@@ -1,7 +1,8 @@
 use native.Mathlib.Omega.{arith}
 use Prim.Native.Nat.{◌+◌}
 use mathlib.Core.Path.{refl}
-use Rattle.table_rules.specs.Depths.{levelled_none, anew, deeper}
+use Rattle.table_rules.specs.Depths.{anew, deeper}
+use Rattle.table_rules.proofs.Depths.{levelled_none}
 use Rattle.table_rows.proofs.depths.depth_after.Goals as goal
 
 pub returns-then-before-gt15 : goal.returns-then-before-gt15

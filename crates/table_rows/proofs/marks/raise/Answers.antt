@@ -1,7 +1,8 @@
 use native.Mathlib.Omega.{arith}
 use Prim.Native.Nat.{◌-◌, ◌≤◌}
 use mathlib.Core.Path.{subst}
-use Rattle.table_rules.specs.Marks.{RaisedTo, raised_none, raised_more}
+use Rattle.table_rules.specs.Marks.{RaisedTo}
+use Rattle.table_rules.proofs.Marks.{raised_none, raised_more}
 use Rattle.table_rows.proofs.marks.raise.Goals as goal
 
 pub loop-b-init : goal.loop-b-init

@@ -3,7 +3,8 @@ use Prim.Native.Nat.{◌+◌, ◌-◌, ◌≤◌}
 use mathlib.Core.Path.{subst, ◌∙◌}
 use mathlib.Core.Logic.{⊎_elim}
 use lib.ListN.{get_or}
-use Rattle.table_rules.specs.Marks.{raised_by, raised_up, raised_left, StoredFrom, stored_none, stored_more}
+use Rattle.table_rules.specs.Marks.{raised_by, StoredFrom}
+use Rattle.table_rules.proofs.Marks.{raised_up, raised_left, stored_none, stored_more}
 use Rattle.table_rows.proofs.marks.raise_at.Goals.{else-targets-at, then-targets-at}
 use Rattle.table_rows.proofs.marks.raise_at.Goals as goal
 

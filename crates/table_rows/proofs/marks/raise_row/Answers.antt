@@ -1,6 +1,7 @@
 use native.Mathlib.Omega.{arith}
 use Prim.Native.Nat.{◌-◌, ◌≤◌}
-use Rattle.table_rules.specs.Marks.{RowRaisedTo, row_none, row_more, row_all}
+use Rattle.table_rules.specs.Marks.{RowRaisedTo}
+use Rattle.table_rules.proofs.Marks.{row_none, row_more, row_all}
 use Rattle.table_rows.proofs.marks.raise_row.Goals as goal
 
 pub loop-b-init : goal.loop-b-init

@@ -1,4 +1,4 @@
-use Rattle.table_rules.specs.Arrays.{box_read}
+use Rattle.table_rules.proofs.Arrays.{box_read}
 use Rattle.table_rows.proofs.rows.box_in.Goals as goal
 
 pub returns : goal.returns

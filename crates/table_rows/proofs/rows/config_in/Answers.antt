@@ -4,7 +4,7 @@ use mir.ValLaws.{to_z-of_z}
 use lib.ListN.{get_or}
 use lib.IntN.{pos}
 use Prim.Native.Nat.{◌+◌, ◌*◌}
-use Rattle.table_rules.specs.Arrays.{config_read}
+use Rattle.table_rules.proofs.Arrays.{config_read}
 use Rattle.std.proofs.Common.{rules}
 use Rattle.table_rows.proofs.rows.config_in.Goals as goal
 

@@ -3,7 +3,7 @@ use mir.Val.{SFits}
 use mir.ValLaws.{to_z-of_z}
 use native.Mathlib.Omega.{arith}
 use lib.ListN.{length-set}
-use Rattle.table_rules.specs.Arrays.{range_write}
+use Rattle.table_rules.proofs.Arrays.{range_write}
 use Rattle.std.proofs.Common.{rules}
 use Rattle.table_rows.proofs.rows.put_range.Goals as goal
 

@@ -1,4 +1,4 @@
-use Rattle.table_rules.specs.Arrays.{ranges_write}
+use Rattle.table_rules.proofs.Arrays.{ranges_write}
 use Rattle.table_rows.proofs.rows.put_ranges.Goals as goal
 
 pub returns : goal.returns

@@ -4,7 +4,7 @@ use mir.ValLaws.{to_z-of_z}
 use lib.ListN.{get_or}
 use Prim.Native.Nat.{◌+◌}
 use lib.IntN.{pos}
-use Rattle.table_rules.specs.Arrays.{range_read}
+use Rattle.table_rules.proofs.Arrays.{range_read}
 use Rattle.std.proofs.Common.{rules}
 use Rattle.table_rows.proofs.rows.range_in.Goals as goal
 

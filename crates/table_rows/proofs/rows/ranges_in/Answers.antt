@@ -1,4 +1,4 @@
-use Rattle.table_rules.specs.Arrays.{ranges_read}
+use Rattle.table_rules.proofs.Arrays.{ranges_read}
 use Rattle.table_rows.proofs.rows.ranges_in.Goals as goal
 
 pub returns : goal.returns

@@ -1,6 +1,6 @@
 use mathlib.Core.Path.{sym, ◌∙◌}
 use native.Mathlib.Omega.{arith}
-use Rattle.table_rules.specs.Meaning.{found_here}
+use Rattle.table_rules.proofs.Meaning.{found_here}
 use Rattle.table_rows.proofs.search.find.Goals as goal
 
 pub returns-then-holds : goal.returns-then-holds

@@ -1,4 +1,4 @@
-use Rattle.table_rules.specs.Meaning.{holds_read}
+use Rattle.table_rules.proofs.Meaning.{holds_read}
 use Rattle.table_rows.proofs.search.holds.Goals as goal
 
 pub returns : goal.returns

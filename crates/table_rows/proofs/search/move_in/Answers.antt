@@ -2,7 +2,7 @@ use native.Mathlib.Omega.{arith}
 use Rattle.sheet_bytes.specs.Fields.{move_within, counters_limit, length_rest}
 use Rattle.sheet_rules.specs.Layout.{move_size}
 use Rattle.table_rules.specs.Arrays.{region_in}
-use Rattle.table_rules.specs.Meaning.{move_part_lem}
+use Rattle.table_rules.proofs.Meaning.{move_part_lem}
 use Rattle.table_rows.proofs.search.move_in.Goals as goal
 
 pub slice_bounds-read_move-count : goal.slice_bounds-read_move-count

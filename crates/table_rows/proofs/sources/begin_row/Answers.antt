@@ -2,7 +2,7 @@ use native.Mathlib.Omega.{arith}
 use Prim.Native.Nat.{◌+◌}
 use mathlib.Core.Path.{◌∙◌}
 use lib.ListN.{set, length-set}
-use Rattle.table_rules.specs.Sources.{begun}
+use Rattle.table_rules.proofs.Sources.{begun}
 use Rattle.table_rows.proofs.sources.begin_row.Goals as goal
 
 pub bounds-bounds-n-2 : goal.bounds-bounds-n-2

@@ -1,4 +1,4 @@
-use Rattle.table_rules.specs.Sources.{lowered_to}
+use Rattle.table_rules.proofs.Sources.{lowered_to}
 use Rattle.table_rows.proofs.sources.lower.Goals as goal
 
 pub returns-then-bounds-at : goal.returns-then-bounds-at

@@ -1,5 +1,5 @@
 use Rattle.sheet_bytes.specs.Cuts.{cuts_made}
-use Rattle.table_rules.specs.Cutting.{cut_by_only}
+use Rattle.table_rules.proofs.Cutting.{cut_by_only}
 use Rattle.tables.proofs.cutting.cut_by_rules.Goals as goal
 
 pub returns-then-counters-eq1 : goal.returns-then-counters-eq1

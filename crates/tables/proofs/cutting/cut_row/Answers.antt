@@ -1,5 +1,6 @@
 use mathlib.Core.Path.{sym, subst}
-use Rattle.table_rules.specs.Cutting.{Cuttable, cut_kept, cut_changed}
+use Rattle.table_rules.specs.Cutting.{Cuttable}
+use Rattle.table_rules.proofs.Cutting.{cut_kept, cut_changed}
 use Rattle.tables.proofs.cutting.cut_row.Goals as goal
 
 pub cut_by_rules-cut-requires : goal.cut_by_rules-cut-requires

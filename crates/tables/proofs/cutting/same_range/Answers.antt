@@ -1,7 +1,7 @@
 use mir.Syntax.{w64}
 use mir.Val.{SFits, of_z}
 use mathlib.Core.Path.{ap}
-use Rattle.table_rules.specs.Cutting.{range_same_yes, range_low_no, range_high_no, bits_same}
+use Rattle.table_rules.proofs.Cutting.{range_same_yes, range_low_no, range_high_no, bits_same}
 use Rattle.std.proofs.Common.{rules}
 use Rattle.tables.proofs.cutting.same_range.Goals as goal
 

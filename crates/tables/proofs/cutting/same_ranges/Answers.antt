@@ -1,5 +1,5 @@
 use borrow.Author.Tests.{not-true, not-false}
-use Rattle.table_rules.specs.Cutting.{first_no, second_no, third_tells}
+use Rattle.table_rules.proofs.Cutting.{first_no, second_no, third_tells}
 use Rattle.tables.proofs.cutting.same_ranges.Goals as goal
 
 pub returns-then-not-same_range : goal.returns-then-not-same_range

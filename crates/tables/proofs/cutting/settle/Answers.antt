@@ -3,9 +3,10 @@ use Prim.Native.Nat.{◌+◌, ◌*◌}
 use mathlib.Core.Path.{refl, ◌∙◌}
 use borrow.Author.Tests.{not-true, not-false}
 use lib.ListN.{length-set}
-use Rattle.table_rules.specs.Marks.{raised_nobody}
-use Rattle.table_rules.specs.Sources.{noting}
-use Rattle.table_rules.specs.Cutting.{settled_same, settled_raised}
+use Rattle.table_rules.proofs.Marks.{raised_nobody}
+use Rattle.table_rules.proofs.Sources.{noting}
+use Rattle.table_rules.specs.Cutting.{settled_same}
+use Rattle.table_rules.proofs.Cutting.{settled_raised}
 use Rattle.tables.proofs.cutting.settle.Goals as goal
 
 pub cut_row-requires : goal.cut_row-requires

@@ -1,8 +1,8 @@
 use native.Mathlib.Omega.{arith}
 use mathlib.Core.Path.{refl}
 use Rattle.sheet_bytes.specs.Three.{config_meant}
-use Rattle.table_rules.specs.Meaning.{covered_few}
-use Rattle.table_rules.specs.Growth.{cells_new, homes_new}
+use Rattle.table_rules.proofs.Meaning.{covered_few}
+use Rattle.table_rules.proofs.Growth.{cells_new, homes_new}
 use Rattle.tables.proofs.growth.append.Goals as goal
 
 pub box_at-b-requires : goal.box_at-b-requires

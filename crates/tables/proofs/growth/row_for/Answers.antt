@@ -1,5 +1,6 @@
 use mathlib.Core.Path.{refl}
-use Rattle.table_rules.specs.Growth.{row_there, row_new, row_none, nobody, room_left}
+use Rattle.table_rules.specs.Growth.{row_there, row_new, row_none}
+use Rattle.table_rules.proofs.Growth.{nobody, room_left}
 use Rattle.tables.proofs.growth.row_for.Goals as goal
 
 pub find-j-requires : goal.find-j-requires

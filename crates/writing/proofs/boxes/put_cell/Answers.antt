@@ -1,9 +1,10 @@
 use native.Mathlib.Omega.{arith}
 use Prim.Native.Nat.{◌+◌, ◌%◌, ◌/◌}
 use mathlib.Core.Path.{ap, ◌∙◌}
-use Rattle.integers.specs.LittleEndian.{split, length_split}
+use Rattle.integers.specs.LittleEndian.{split}
+use Rattle.integers.proofs.LittleEndian.{length_split}
 use Rattle.sheet_bytes.specs.Fields.{not_four}
-use Rattle.sheet_rules.specs.Shape.{width_few}
+use Rattle.sheet_rules.proofs.Shape.{width_few}
 use Rattle.writing.specs.Stored.{stored, stored_behind}
 use Rattle.writing.specs.BoxBytes.{two_bytes, four_bytes, upper_small}
 use Rattle.writing.proofs.boxes.put_cell.Goals as goal

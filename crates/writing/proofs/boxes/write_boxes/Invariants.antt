@@ -4,7 +4,7 @@ use mathlib.Core.Path.{◌≡◌, refl}
 use mathlib.Core.List.{List}
 use lib.ListN.{length}
 use Rattle.systems.specs.Lists.{collect}
-use Rattle.sheet_rules.specs.Shape.{width_few}
+use Rattle.sheet_rules.proofs.Shape.{width_few}
 use Rattle.writing.specs.Numbers.{entry_in}
 use Rattle.writing.specs.Stored.{stored, stored_start, stored_more, rows_le, rows_small}
 use Rattle.writing.specs.BoxBytes.{row_bytes, rows_length, record_small, boxes_stored}

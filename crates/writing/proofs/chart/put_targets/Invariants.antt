@@ -2,7 +2,8 @@ use native.Mathlib.Omega.{arith}
 use Prim.Native.Nat.{ℕ, ◌+◌, ◌*◌, ◌-◌, ◌≤◌}
 use mathlib.Core.Path.{◌≡◌, refl, ap, ◌∙◌}
 use lib.ListN.{length, set, length-set}
-use Rattle.systems.specs.Lists.{collect, length_each}
+use Rattle.systems.specs.Lists.{collect}
+use Rattle.systems.proofs.Lists.{length_each}
 use Rattle.table_rules.specs.Arrays.{target_in}
 use Rattle.writing.specs.Numbers.{entry_in}
 use Rattle.writing.specs.Stored.{stored, stored_start, stored_one, stored_more}

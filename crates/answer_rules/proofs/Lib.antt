@@ -1,0 +1,4 @@
+pub mod Loops
+pub mod Sequence
+pub mod Stages
+pub mod Walk

@@ -1,0 +1,3 @@
+pub mod Composition
+pub mod DepthBound
+pub mod Distinguishing

@@ -1,0 +1,13 @@
+pub mod Beside
+pub mod Counting
+pub mod Explored
+pub mod FirstNamings
+pub mod FirstWords
+pub mod LockStep
+pub mod Moore
+pub mod NotedWords
+pub mod PairVerdict
+pub mod PairVisiting
+pub mod Pigeonhole
+pub mod Places
+pub mod Quotient

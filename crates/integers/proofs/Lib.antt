@@ -1,0 +1,10 @@
+pub mod Bits
+pub mod Cases
+pub mod Dividend
+pub mod Division
+pub mod Inverse
+pub mod LittleEndian
+pub mod Machine
+pub mod Order
+pub mod Quotient
+pub mod RangeLaws

@@ -1,0 +1,13 @@
+pub mod BoxList
+pub mod Boxes
+pub mod ChartBytes
+pub mod ChartDepthLaws
+pub mod ChartEquality
+pub mod ChartRules
+pub mod ChartWords
+pub mod ClassTheorem
+pub mod Classes
+pub mod Finite
+pub mod Labels
+pub mod Rounds
+pub mod Theorems

@@ -1,0 +1,14 @@
+pub mod Bound
+pub mod BoundMore
+pub mod Completed
+pub mod Depth
+pub mod DepthMore
+pub mod Flags
+pub mod Loop
+pub mod Numbering
+pub mod Ordering
+pub mod Potential
+pub mod SheetTable
+pub mod Table
+pub mod Walk
+pub mod Widths

@@ -1,0 +1,4 @@
+pub mod Answered
+pub mod Kept
+pub mod Refusals
+pub mod Theorems
