@@ -5,19 +5,29 @@ from typing import NamedTuple
 
 from repository import short
 
-# an error, or the note that says what is not proved of a function that has no proof file
-ERROR = re.compile(r"^(?:note: )?(\S+?):(\d+):\d+: (error.*|it is not proved.*)", re.M)
+# an error, or the note that says what `search` did not prove of a function
+ERROR = re.compile(r"^(?:note: )?(?:\./)?(\S+?):(\d+):\d+: (error.*|it is not proved.*)", re.M)
+UNANSWERED = re.compile(r"^fn \S+: no proof: expected answers in (?:\./)?(\S+); (`search` did not prove .*)", re.M)
 
-# what is said of a name, of a proof that answers other needs, of what only follows, and of a refused fact: that begins with the declaration
+# what is said of a name, of a proof that answers other goals, of what only follows, and where the prover stopped; a refused fact begins with the declaration
 NAMES = "not in scope|cannot be named|can be named from here|has no field|has no module|is ambiguous|unknown-name"
-# a path into a place of the code that has no such field is of the second kind too: its record is named, and the rest stands on the next line
-NEEDS = r"expected type `tie\.Need-|: record `[^`]*\.Lts\."
-FOLLOWS = "was not admitted"
-FACT = "`[^`]*`: (?!this clause)|it is not proved"
+# an answer that reads a place which the code has no more is of the second kind too: its record is named, and the rest stands on the next line
+NEEDS = r": record `[^`]*\.Lts\."
+FOLLOWS = "not admitted|was rejected|declarations? that depends? on"
+LIMIT = "antt ran out of|outgrew the memory limit|stopped at the step limit"
+FACT = "`[^`]*`: (?!this clause)|it is not proved|`search` did not prove"
+
+# of a goal that was left to `search`, and that no values are known to make false
+UNPROVED = re.compile("(?:it is not proved|`search` did not prove)(?!.*this goal is false)")
+
+# a log that begins so says why nothing was tried
+UNTRIED = "not tried: "
 
 
 class Mistake(NamedTuple):
-    """One wrong version: `place` is the declaration whose own proof must be refused, `file` and `old` are what it changes."""
+    """One wrong version: `place` is the declaration whose own proof must be refused, `file` and `old` are what it changes first, and `changes` has all
+    that it changes, each a file with its text and the new one. The first change makes the mistake. Those behind it have the names that a proof cites follow
+    the code, as the name of a goal has the number that a condition compares with."""
 
     crate: str
     edit: str
@@ -26,6 +36,7 @@ class Mistake(NamedTuple):
     place: str
     file: str
     old: str
+    changes: list
 
 
 class Error(NamedTuple):
@@ -46,17 +57,34 @@ def mistakes(file):
     found, label, said, place, name, old = [], "", "", "", "", ""
     for line in file.read_text(encoding="utf-8").split("\n"):
         key, _, text = line.partition(": ")
-        if line.startswith("# "):
-            label, said, place = key[2:], text, ""
-        elif key == "refused":
+        if key in ("refused", "# refused"):
             place = text
+        elif line.startswith("# "):
+            label, said, place = key[2:], text, ""
         elif key == "file":
             name = text
         elif key == "old":
             old = text
         elif line.startswith("new:"):
-            found.append(Mistake(file.parts[1], file.stem, label, said, place, name, old))
+            if not name.startswith("proofs/") or not found or found[-1].label != label:
+                found.append(Mistake(file.parts[1], file.stem, label, said, place, name, old, []))
+            found[-1].changes.append((name, old, line[4:].removeprefix(" ")))
     return found
+
+
+def changed(file):
+    """The texts of the files that a file of edits changes, by their path in the crate, or why it cannot be made."""
+    texts = {}
+    for mistake in mistakes(file):
+        for name, old, new in mistake.changes:
+            source = pathlib.Path("crates", mistake.crate, name)
+            if not source.is_file():
+                return {}, f"there is no file {name}"
+            text = texts.get(name) or source.read_text(encoding="utf-8")
+            if not old or text.count(old) != 1:
+                return {}, f"a text of {mistake.label} stands in {name} {text.count(old)} times, and not once"
+            texts[name] = text.replace(old, new)
+    return texts, None
 
 
 def faults(file, tried):
@@ -102,13 +130,14 @@ def body(file, name):
     return found[2] if found else ""
 
 
-def place_of(folder, name, line, said):
-    """The declaration where an error of an edited crate stands, as `src/file.rt#function`, `specs/File.antt#name` or `proofs/File.antt#name`."""
-    parts = pathlib.PurePath(name).parts
-    if parts[0] == "proofs" and len(parts) > 2:
-        module = "/".join(parts[1:-2]) or ("lib" if (folder / "src" / "lib.rt").exists() else "main")
-        return f"src/{module}.rt#{parts[-2]}"
-    if parts[0] == "src":
+def place_of(crate, name, line, said):
+    """The declaration where an error of an edited crate stands, as `src/file.rt#function`, `specs/File.antt#name` or `proofs/File.antt#name`. An edit
+    changes no line's number."""
+    folder, path = pathlib.Path("crates", crate), pathlib.PurePath(name)
+    if path.parts[0] == "proofs" and path.name in ("Answers.antt", "Invariants.antt", "Proof.antt"):
+        module = "/".join(path.parts[1:-2]) or ("lib" if (folder / "src" / "lib.rt").exists() else "main")
+        return f"src/{module}.rt#{path.parts[-2]}"
+    if path.parts[0] == "src":
         above = [function for start, function in functions(folder / name) if start <= line]
         return f"{name}#{above[-1]}" if above else name
     declared = re.match("error: `([^`]*)`: ", said)
@@ -117,22 +146,23 @@ def place_of(folder, name, line, said):
 
 def mark(said):
     """Why an error is no refused fact, if so."""
-    if re.search(NAMES, said):
-        return "name"
-    if re.search(NEEDS, said):
-        return "needs"
-    if re.search(FOLLOWS, said):
-        return "follows"
+    for why, pattern in {"follows": FOLLOWS, "name": NAMES, "needs": NEEDS, "limit": LIMIT}.items():
+        if re.search(pattern, said):
+            return why
     return "" if re.match(FACT, said) else "parse"
 
 
-def errors(folder):
-    """The errors that the log of an edited crate has, in its order."""
-    log = (folder / ".log").read_text(encoding="utf-8").replace(f"{folder.resolve()}/", "")
+def errors(crate, log):
+    """The errors that the log of an edited crate has, in its order. Where a function's answers do not fit its goals, one of these may have lost its answer:
+    that it is not proved then says nothing, unless it is false."""
     found = []
     for name, line, said in ERROR.findall(log):
         text = f"{name}:{line} {short(said.removeprefix('error: '))}"
-        found.append(Error(place_of(folder, name, int(line), said), text, mark(said.removeprefix("error: "))))
+        found.append(Error(place_of(crate, name, int(line), said), text, mark(said.removeprefix("error: "))))
+    for name, said in UNANSWERED.findall(log):
+        found.append(Error(place_of(crate, name, 0, said), f"{name} {said}", ""))
+    unfit = {error.place for error in found if error.why in ("name", "needs")}
+    found = [error._replace(why="needs") if error.place in unfit and UNPROVED.search(error.text) else error for error in found]
     unproved = re.search("^fn .*: (?:no proof|not proved).*", log, re.M)
     if not found and unproved:
         found.append(Error("", short(unproved[0]), "needs"))
