@@ -148,5 +148,6 @@ def cut(text, length):
 
 
 def short(text):
-    """A term or a message with names for their paths: `length` for `lib.ListN.length`. A first part alone stays, as in `c.args`."""
-    return re.sub(r"(?:[\w·⟦⟧'-]+\.){2,}(?=[^\s.])", "", text)
+    """A term or a message with names for their paths: `length` for `lib.ListN.length`. A first part alone stays, as in `goal.Start`, and so does what an
+    answer cites, as `c.args.top`."""
+    return re.sub(r"(?<![\w·⟦⟧'.-])(?:[A-Z][\w·⟦⟧'-]*\.|[\w·⟦⟧'-]+\.(?=[A-Z]))(?:[\w·⟦⟧'+-]+\.)+(?=[^\s.])", "", text)
