@@ -8,14 +8,14 @@ import pathlib
 import re
 import sys
 
+# no __pycache__ beside the scripts
+sys.dont_write_bytecode = True
+sys.path.insert(0, "tools")
+from repository import crates
+
 HEAD = re.compile(r'^(?P<indent> *)(?P<pub>pub )?(?:extern "C" )?fn (?P<name>\w+)')
+CLAUSE = re.compile(r"^ *(requires|ensures)\b", re.M)
 ROW = re.compile(r"^\| (?P<names>`\w+`(?:, `\w+`)*) \| (?P<kind>\w+) \|", re.M)
-
-
-def listed():
-    """The crates of crates.txt, in its order."""
-    lines = pathlib.Path("crates.txt").read_text(encoding="utf-8").splitlines()
-    return [line.partition(":")[0] for line in lines if line.strip() and not line.startswith("#")]
 
 
 def kind_of(crate):
@@ -34,8 +34,9 @@ def public_functions(file):
     for start, line in enumerate(lines):
         head = HEAD.match(line)
         if head and head["pub"]:
+            # each clause stands in lines of its own, and ends with its brace
             end = start
-            while not (lines[end].rstrip().endswith("{") and "⌝" not in lines[end]):
+            while not lines[end].rstrip().endswith("{"):
                 end += 1
             yield head["name"], "\n".join(lines[start : end + 1])
 
@@ -46,8 +47,8 @@ def main():
     for row in ROW.finditer(pathlib.Path("README.md").read_text(encoding="utf-8")):
         for name in re.findall(r"\w+", row["names"]):
             told[name] = row["kind"]
-    crates = listed()
-    for crate in crates:
+    listed = crates()
+    for crate in listed:
         kind = kind_of(crate)
         if kind is None:
             problems.append(f"{crate}: src/lib.rt does not say whether it is public or internal")
@@ -58,16 +59,17 @@ def main():
         for file in sorted(pathlib.Path("crates", crate, "src").rglob("*.rt")):
             for name, contract in public_functions(file):
                 functions += 1
-                if "requires" in contract:
+                clauses = CLAUSE.findall(contract)
+                if "requires" in clauses:
                     problems.append(f"{file}: {name} is public and has a requires")
-                if "ensures" not in contract:
+                if "ensures" not in clauses:
                     problems.append(f"{file}: {name} is public and has no ensures")
     for crate in told:
-        if crate not in crates:
+        if crate not in listed:
             problems.append(f"the README's table has {crate}, which crates.txt has not")
     for problem in problems:
         print(problem)
-    print(f"crates: {len(crates)} listed, {functions} public functions, {len(problems)} wrong")
+    print(f"crates: {len(listed)} listed, {functions} public functions, {len(problems)} wrong")
     return 1 if problems or not functions else 0
 
 
