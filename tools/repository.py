@@ -38,6 +38,7 @@ def go_to_root():
     sys.exit("no crates.txt in this folder or above it")
 
 
+@functools.lru_cache
 def listed():
     """Each crate of crates.txt, in its order, with the words behind its name and the libraries that it uses."""
     lines = pathlib.Path("crates.txt").read_text(encoding="utf-8").split("\n")
@@ -55,6 +56,7 @@ def need_crate(name):
         sys.exit(f"no crate {name}: crates.txt lists {', '.join(crates())}")
 
 
+@functools.lru_cache
 def below(crate):
     """The crates of the repository that a crate is built on, each after those that it uses itself."""
     found, every = [], listed()
