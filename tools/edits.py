@@ -25,17 +25,15 @@ UNTRIED = "not tried: "
 
 
 class Mistake(NamedTuple):
-    """One wrong version: `place` is the declaration whose own proof must be refused, `file` and `old` are what it changes first, and `changes` has all
-    that it changes, each a file with its text and the new one. The first change makes the mistake. Those behind it have the names that a proof cites follow
-    the code, as the name of a goal has the number that a condition compares with."""
+    """One wrong version: `place` is the declaration whose own proof must be refused, and `changes` has what it changes, each a file with its text and the
+    new one. Beside what is wrong these are what follows it: an import, or in a proof the name of a goal, which has the number that a condition compares
+    with."""
 
     crate: str
     edit: str
     label: str
     said: str
     place: str
-    file: str
-    old: str
     changes: list
 
 
@@ -53,7 +51,7 @@ def edits(crate):
 
 
 def mistakes(file):
-    """The mistakes of a file, in its order: `# label: what is wrong`, then lines `refused:`, `file:`, `old:` and `new:`."""
+    """The mistakes of a file, in its order: `# label: what is wrong`, then lines `refused:`, `file:`, `old:` and `new:`, the last two for each change."""
     found, label, said, place, name, old = [], "", "", "", "", ""
     for line in file.read_text(encoding="utf-8").split("\n"):
         key, _, text = line.partition(": ")
@@ -66,8 +64,8 @@ def mistakes(file):
         elif key == "old":
             old = text
         elif line.startswith("new:"):
-            if not name.startswith("proofs/") or not found or found[-1].label != label:
-                found.append(Mistake(file.parts[1], file.stem, label, said, place, name, old, []))
+            if not found or found[-1].label != label:
+                found.append(Mistake(file.parts[1], file.stem, label, said, place, []))
             found[-1].changes.append((name, old, line[4:].removeprefix(" ")))
     return found
 
@@ -106,7 +104,8 @@ def shared_faults(tried):
         source, _, name = mistake.place.partition("#")
         if mistake.place in (earlier.place for earlier in tried[:number]):
             yield f"{mistake.label}: another mistake of this run is in {mistake.place}"
-        if source != mistake.file or mistake.old not in body(pathlib.Path("crates", mistake.crate, source), name):
+        text = body(pathlib.Path("crates", mistake.crate, source), name)
+        if any((file != source or old not in text) and not file.startswith("proofs/") for file, old, _ in mistake.changes):
             yield f"{mistake.label}: what it changes is not in the body of {mistake.place}"
 
 
