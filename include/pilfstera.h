@@ -1,4 +1,4 @@
-/* Pilfstera for C and C++: link libpilfstera.a, which `rt staticlib pilfstera` writes into target/staticlib.
+/* Pilfstera for C and C++: link libpilfstera.a, which `tools/static-library` writes into target/staticlib.
 
    Each function returns 0 where it was done, else the number of the refusal, 1 to 16, 19 or 22, and stores a number through
    `returned`: what its comment says where it was done, else what the table says. A refusal alters no buffer. The last two, which compare

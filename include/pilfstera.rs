@@ -1,4 +1,4 @@
-// Pilfstera for Rust programs: safe functions over slices, for what `rt staticlib pilfstera` writes into target/staticlib. A program takes
+// Pilfstera for Rust programs: safe functions over slices, for what `tools/static-library` writes into target/staticlib. A program takes
 // this file in as a module, by its path from the program's own file,
 //
 //     #[path = "../include/pilfstera.rs"]
