@@ -4,7 +4,6 @@ use Rattle.std.specs.Prelude.{◌≡◌, refl, ◌↔◌, ℕ, zero, suc, ◌+�
 use Rattle.std.proofs.Common.{sym, ap, subst, arith, mod-lt, mul_comm}
 use Rattle.std.specs.Int.{◌∣◌}
 use Rattle.std.proofs.Math.Nat.{mod-add-div, mul-div_cancel', dvd_of_mul-dvd-mul_left, le_of_dvd, pos_of_dvd_of_pos, dvd_refl}
-use Rattle.systems.specs.Search.{least}
 use Rattle.systems.proofs.Laws.{eqb_tells, least_is}
 use Rattle.congruence_rules.specs.Congruence.{congruent}
 use Rattle.congruence_rules.specs.Modular.{Same}

@@ -1,4 +1,4 @@
-// What a sheet and a chart mean: the definitions and theorems stand in specs/.
+// What a sheet and a chart mean: the definitions stand in specs/, the theorems in proofs/.
 // Internal: serves sister crates; a function may ask what its callers have made sure of.
 #![tactic(auto)]
 

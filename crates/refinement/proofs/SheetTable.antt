@@ -20,7 +20,7 @@ use Rattle.model.proofs.Classes.{each_at, region_eq, region_box, region_fits, la
 use Rattle.model.specs.ClassTheorem.{ClassFits}
 use Rattle.model.proofs.ClassTheorem.{step_bounded, sheet_explorable}
 use Rattle.refinement.specs.Table.{Framed, SoundRow, Sound, Leads, Whole, Cut}
-use Rattle.refinement.proofs.Table.{first_sound, cut_sound, append_sound, new_many, exact, next_covered}
+use Rattle.refinement.proofs.Table.{first_sound, cut_sound, append_sound, new_many, next_covered}
 use Rattle.refinement.specs.SheetTable.{Row, sheet_frame, move_at, region_row, cut_row}
 
 pub step_open : (s : Sheet) (a : ℕ) (x : Configuration) {target : ℕ} {rules : List Rule} → move_at s a x ≡ Open target rules → step s a x ≡ some (landing target rules x)

@@ -1,6 +1,5 @@
 -- Laws of dictionary order, alone and behind the length, and of the search through all lists in such an order.
 use Rattle.std.specs.Prelude.{◌≡◌, Bool, ◌⊎◌, List, T, length, get_or}
-use Rattle.std.proofs.Math.Option
 use Rattle.std.proofs.Math.Option.{Option, none, some}
 use Prim.Native.Nat.{ℕ, ◌<◌}
 use Rattle.systems.specs.System.{Below}

@@ -1,5 +1,5 @@
 -- A pass over the rows, and the loop of passes: what each gives.
-use Rattle.std.specs.Prelude.{◌≡◌, true, List, ℕ, suc, ◌+◌, ◌≤◌, ◌<◌, set, ℤ}
+use Rattle.std.specs.Prelude.{◌≡◌, true, List, ℕ, ◌+◌, ◌≤◌, ◌<◌, set, ℤ}
 use Rattle.std.proofs.Common.{sym, ap, subst, ◌∙◌, inr, add-one, arith}
 use Rattle.std.proofs.Math.Decide.{ℕ_discrete, dec_le}
 use Rattle.model.specs.Blocks.{too_many}
@@ -12,7 +12,7 @@ use Rattle.refinement.proofs.Potential.{falling_refl, falling_trans, measure_pas
 use Rattle.refinement.proofs.Loop.{working_fell}
 use Rattle.sheet_bytes.specs.declared.Shape.{Shape}
 use Rattle.sheet_rules.specs.Decode.{decode}
-use Rattle.table_rules.specs.Arrays.{flag_in, depth_in, first_in, fresh_in}
+use Rattle.table_rules.specs.Arrays.{flag_in, first_in, fresh_in}
 use Rattle.table_rules.specs.Marks.{DownBelow, UpBelow, LastRaised}
 use Rattle.table_rules.specs.Depths.{SureDepth, sure_known, sure_each, DepthAfter, anew, deeper}
 use Rattle.table_rules.specs.Meaning.{Ready, row_in}

@@ -1,9 +1,6 @@
-use mathlib.Core.Path.{◌≡◌, ◌∙◌}
-use mathlib.Core.Bool.{true}
-use Prim.Native.Nat.{◌-◌, ◌≤◌}
+use mathlib.Core.Path.{◌∙◌}
 use native.Mathlib.Omega.{arith}
 use borrow.Author.Tests.{not-true, not-false}
-use Rattle.systems.specs.Search.{all}
 use Rattle.answer_rules.proofs.Loops.{all_none, all_more}
 use Rattle.chart_bytes.specs.Classes.{same_at, agree_first, agree_stop, agree_all, agree_at}
 use Rattle.chart_rounds.proofs.agrees.Goals as goal

@@ -1,9 +1,7 @@
-use mathlib.Core.Path.{◌≡◌, refl, ◌∙◌}
+use mathlib.Core.Path.{◌≡◌}
 use Prim.Native.Nat.{ℕ, ◌-◌, ◌≤◌, ◌<◌}
-use native.Mathlib.Omega.{arith}
-use lib.ListN.{length, get_or, length-set}
+use lib.ListN.{length, get_or}
 use Rattle.model.specs.Chart.{round_class}
-use Rattle.chart_bytes.specs.Classes.{store_next}
 use Rattle.chart_rounds.proofs.by_labels.Given as goal
 
 abbrev pub invariant-loop-i : goal.invariant-loop-i

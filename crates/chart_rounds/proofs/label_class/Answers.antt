@@ -1,9 +1,7 @@
-use mathlib.Core.Path.{◌≡◌, refl}
-use mathlib.Core.Bool.{false}
-use Prim.Native.Nat.{ℕ, ◌-◌, ◌≤◌, ◌<◌}
+use mathlib.Core.Path.{refl}
 use native.Mathlib.Omega.{arith}
 use Rattle.systems.proofs.Laws.{below_next}
-use Rattle.chart_bytes.specs.Classes.{same_label, label_found, label_other}
+use Rattle.chart_bytes.specs.Classes.{label_found, label_other}
 use Rattle.chart_rounds.proofs.label_class.Goals as goal
 
 pub loop-j-init : goal.loop-j-init

@@ -1,9 +1,7 @@
-use mathlib.Core.Path.{◌≡◌, refl}
+use mathlib.Core.Path.{◌≡◌}
 use mathlib.Core.Bool.{false}
 use Prim.Native.Nat.{ℕ, ◌-◌, ◌≤◌, ◌<◌}
-use native.Mathlib.Omega.{arith}
-use Rattle.systems.proofs.Laws.{below_next}
-use Rattle.chart_bytes.specs.Classes.{same_label, label_found, label_other}
+use Rattle.chart_bytes.specs.Classes.{same_label}
 use Rattle.chart_rounds.proofs.label_class.Given as goal
 
 abbrev pub invariant-loop-j : goal.invariant-loop-j

@@ -1,10 +1,9 @@
-use mathlib.Core.Path.{◌≡◌, refl, ◌∙◌}
+use mathlib.Core.Path.{◌≡◌}
 use Prim.Native.Nat.{ℕ, ◌-◌, ◌≤◌, ◌<◌}
-use native.Mathlib.Omega.{arith}
-use lib.ListN.{length, get_or, length-set}
+use lib.ListN.{length, get_or}
 use Rattle.systems.specs.Search.{least}
 use Rattle.model.specs.Chart.{blocks_of, refines}
-use Rattle.chart_bytes.specs.Classes.{entry, store_next}
+use Rattle.chart_bytes.specs.Classes.{entry}
 use Rattle.chart_rounds.proofs.refine.Given as goal
 
 abbrev pub invariant-loop-i : goal.invariant-loop-i

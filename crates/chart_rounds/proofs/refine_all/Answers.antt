@@ -1,10 +1,7 @@
-use mathlib.Core.Path.{◌≡◌, sym, ◌∙◌}
-use Prim.Native.Nat.{ℕ, ◌-◌, ◌≤◌, ◌<◌}
+use mathlib.Core.Path.{sym, ◌∙◌}
 use native.Mathlib.Omega.{arith}
-use lib.ListN.{length}
 use Rattle.systems.proofs.Laws.{below_next}
-use Rattle.model.specs.Rounds.{Parted}
-use Rattle.chart_bytes.specs.Classes.{Holds, holds_ordered, holds_more, holds_all, holds_stopped, differ_parted, depth_stopped, depth_all}
+use Rattle.chart_bytes.specs.Classes.{holds_ordered, holds_more, holds_all, holds_stopped, differ_parted, depth_stopped, depth_all}
 use Rattle.chart_rounds.proofs.refine_all.Goals as goal
 
 pub loop-k-init : goal.loop-k-init

@@ -1,10 +1,8 @@
-use mathlib.Core.Path.{◌≡◌, sym, ◌∙◌}
+use mathlib.Core.Path.{◌≡◌}
 use Prim.Native.Nat.{ℕ, ◌-◌, ◌≤◌, ◌<◌}
-use native.Mathlib.Omega.{arith}
 use lib.ListN.{length}
-use Rattle.systems.proofs.Laws.{below_next}
 use Rattle.model.specs.Rounds.{Parted}
-use Rattle.chart_bytes.specs.Classes.{Holds, holds_ordered, holds_more, holds_all, holds_stopped, differ_parted, depth_stopped, depth_all}
+use Rattle.chart_bytes.specs.Classes.{Holds}
 use Rattle.chart_rounds.proofs.refine_all.Given as goal
 
 abbrev pub invariant-loop-k : goal.invariant-loop-k

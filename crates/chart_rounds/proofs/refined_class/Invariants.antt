@@ -1,10 +1,8 @@
-use mathlib.Core.Path.{◌≡◌, sym, ◌∙◌}
+use mathlib.Core.Path.{◌≡◌}
 use mathlib.Core.Bool.{false}
 use Prim.Native.Nat.{ℕ, ◌-◌, ◌≤◌, ◌<◌}
-use native.Mathlib.Omega.{arith}
-use Rattle.systems.proofs.Laws.{below_next}
 use Rattle.model.specs.Chart.{refines}
-use Rattle.chart_bytes.specs.Classes.{entry, class_found, refines_refl, class_below}
+use Rattle.chart_bytes.specs.Classes.{entry}
 use Rattle.chart_rounds.proofs.refined_class.Given as goal
 
 abbrev pub invariant-loop-j : goal.invariant-loop-j

@@ -1,8 +1,6 @@
 use mathlib.Core.Path.{◌≡◌}
 use Prim.Native.Nat.{ℕ, ◌-◌, ◌≤◌, ◌<◌}
-use native.Mathlib.Omega.{arith}
 use lib.ListN.{get_or}
-use Rattle.systems.proofs.Laws.{below_next}
 use Rattle.chart_rounds.proofs.same_classes.Given as goal
 
 abbrev pub invariant-loop-i : goal.invariant-loop-i

@@ -1,8 +1,6 @@
-use mathlib.Core.Path.{◌≡◌, refl, ◌∙◌}
+use mathlib.Core.Path.{◌≡◌}
 use Prim.Native.Nat.{ℕ, ◌-◌, ◌≤◌, ◌<◌}
-use native.Mathlib.Omega.{arith}
-use lib.ListN.{length, get_or, length-set}
-use Rattle.chart_bytes.specs.Classes.{entry, store_next}
+use lib.ListN.{length, get_or}
 use Rattle.chart_rounds.proofs.take_over.Given as goal
 
 abbrev pub invariant-loop-i : goal.invariant-loop-i

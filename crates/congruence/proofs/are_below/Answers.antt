@@ -1,6 +1,4 @@
-use Prim.Native.Nat.{ℕ, ◌-◌, ◌≤◌, ◌<◌}
 use native.Mathlib.Omega.{arith}
-use lib.ListN.{length, get_or}
 use Rattle.systems.proofs.Laws.{below_next}
 use Rattle.congruence.specs.Machine.{below_stopped, below_passed}
 use Rattle.congruence.proofs.are_below.Goals as goal

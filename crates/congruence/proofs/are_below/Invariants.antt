@@ -1,8 +1,5 @@
 use Prim.Native.Nat.{ℕ, ◌-◌, ◌≤◌, ◌<◌}
-use native.Mathlib.Omega.{arith}
 use lib.ListN.{length, get_or}
-use Rattle.systems.proofs.Laws.{below_next}
-use Rattle.congruence.specs.Machine.{below_stopped, below_passed}
 use Rattle.congruence.proofs.are_below.Given as goal
 
 abbrev pub invariant-loop-at : goal.invariant-loop-at

@@ -1,10 +1,5 @@
-use mathlib.Core.Path.{◌≡◌, sym, subst}
-use Prim.Native.Nat.{ℕ, ◌+◌, ◌-◌, ◌*◌, ◌/◌, ◌%◌, ◌≤◌}
-use native.Mathlib.Omega.{arith}
-use native.Mathlib.Nat.{mod-lt, div-le_self}
+use Prim.Native.Nat.{◌≤◌}
 use Rattle.congruence_rules.specs.Euclid.{OnTheWay}
-use Rattle.congruence_rules.proofs.Euclid.{begun, divided, ended}
-use Rattle.congruence.specs.Machine.{product_fits}
 use Rattle.congruence.proofs.euclid.Given as goal
 
 abbrev pub invariant-loop-next : goal.invariant-loop-next

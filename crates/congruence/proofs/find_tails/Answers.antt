@@ -1,7 +1,6 @@
-use Prim.Native.Nat.{◌-◌, ◌≤◌}
+use Prim.Native.Nat.{◌-◌}
 use native.Mathlib.Omega.{arith}
-use lib.ListN.{length}
-use Rattle.congruence.specs.Tails.{Tails, tails_begun, tails_all, tail_small, tails_next}
+use Rattle.congruence.specs.Tails.{tails_begun, tails_all, tail_small, tails_next}
 use Rattle.congruence.proofs.find_tails.Goals as goal
 
 pub loop-at-init : goal.loop-at-init

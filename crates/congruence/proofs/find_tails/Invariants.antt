@@ -1,7 +1,6 @@
-use Prim.Native.Nat.{◌-◌, ◌≤◌}
-use native.Mathlib.Omega.{arith}
+use Prim.Native.Nat.{◌≤◌}
 use lib.ListN.{length}
-use Rattle.congruence.specs.Tails.{Tails, tails_begun, tails_all, tail_small, tails_next}
+use Rattle.congruence.specs.Tails.{Tails}
 use Rattle.congruence.proofs.find_tails.Given as goal
 
 abbrev pub invariant-loop-at : goal.invariant-loop-at

@@ -1,9 +1,9 @@
-use Prim.Native.Nat.{◌+◌, ◌-◌, ◌*◌, ◌≤◌}
+use Prim.Native.Nat.{◌+◌, ◌*◌}
 use native.Mathlib.Omega.{arith}
 use native.Mathlib.Nat.{mod-lt}
-use lib.ListN.{length, get_or}
+use lib.ListN.{get_or}
 use Rattle.congruence.specs.Tails.{tail_small, tail_falls}
-use Rattle.congruence.specs.Machine.{product_fits, Filling, filling_begun, here_divides, count_is, filling_next, filling_ended}
+use Rattle.congruence.specs.Machine.{product_fits, filling_begun, here_divides, count_is, filling_next, filling_ended}
 use Rattle.congruence.proofs.first_solution.Goals as goal
 
 pub loop-at-init : goal.loop-at-init

@@ -1,8 +1,7 @@
 use mathlib.Core.Path.{◌≡◌, sym, subst}
-use Prim.Native.Nat.{ℕ, ◌≤◌}
+use Prim.Native.Nat.{ℕ}
 use native.Mathlib.Omega.{arith}
-use Rattle.model.specs.Chart.{blocks_of}
-use Rattle.first_words.specs.Notes.{NotesRoom, NotedFrom}
+use Rattle.first_words.specs.Notes.{NotedFrom}
 use Rattle.first_words.proofs.Notes.{noted_none, noted_record}
 use Rattle.first_words.proofs.note_all.Goals as goal
 

@@ -1,9 +1,6 @@
-use mathlib.Core.Path.{◌≡◌, sym, subst}
-use Prim.Native.Nat.{ℕ, ◌≤◌}
-use native.Mathlib.Omega.{arith}
+use Prim.Native.Nat.{◌≤◌}
 use Rattle.model.specs.Chart.{blocks_of}
 use Rattle.first_words.specs.Notes.{NotesRoom, NotedFrom}
-use Rattle.first_words.proofs.Notes.{noted_none, noted_record}
 use Rattle.first_words.proofs.note_all.Given as goal
 
 abbrev pub invariant-loop-i : goal.invariant-loop-i

@@ -1,9 +1,8 @@
 use mathlib.Core.Path.{◌≡◌, sym, subst, ◌∙◌}
-use Prim.Native.Nat.{ℕ, ◌-◌, ◌≤◌}
+use Prim.Native.Nat.{ℕ, ◌-◌}
 use native.Mathlib.Omega.{arith}
 use lib.ListN.{length-set}
-use Rattle.model.specs.Chart.{actions_of}
-use Rattle.first_words.specs.Notes.{NotesRoom, NotedFrom}
+use Rattle.first_words.specs.Notes.{NotedFrom}
 use Rattle.first_words.proofs.Notes.{noted_row, noted_back}
 use Rattle.first_words.proofs.note_record.Goals as goal
 

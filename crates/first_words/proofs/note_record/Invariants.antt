@@ -1,10 +1,6 @@
-use mathlib.Core.Path.{◌≡◌, sym, subst, ◌∙◌}
-use Prim.Native.Nat.{ℕ, ◌-◌, ◌≤◌}
-use native.Mathlib.Omega.{arith}
-use lib.ListN.{length-set}
+use Prim.Native.Nat.{◌≤◌}
 use Rattle.model.specs.Chart.{actions_of}
 use Rattle.first_words.specs.Notes.{NotesRoom, NotedFrom}
-use Rattle.first_words.proofs.Notes.{noted_row, noted_back}
 use Rattle.first_words.proofs.note_record.Given as goal
 
 abbrev pub invariant-loop-a : goal.invariant-loop-a

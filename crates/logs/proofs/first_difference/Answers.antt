@@ -1,7 +1,4 @@
-use mathlib.Core.Path.{◌≡◌}
-use Prim.Native.Nat.{ℕ, ◌-◌, ◌≤◌, ◌<◌}
 use native.Mathlib.Omega.{arith}
-use lib.ListN.{get_or}
 use Rattle.systems.proofs.Laws.{below_next}
 use Rattle.log_rules.proofs.Machine.{stopped, ended}
 use Rattle.logs.proofs.first_difference.Goals as goal

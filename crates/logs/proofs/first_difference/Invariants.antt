@@ -1,9 +1,6 @@
 use mathlib.Core.Path.{◌≡◌}
 use Prim.Native.Nat.{ℕ, ◌-◌, ◌≤◌, ◌<◌}
-use native.Mathlib.Omega.{arith}
 use lib.ListN.{get_or}
-use Rattle.systems.proofs.Laws.{below_next}
-use Rattle.log_rules.proofs.Machine.{stopped, ended}
 use Rattle.logs.proofs.first_difference.Given as goal
 
 abbrev pub invariant-loop-at : goal.invariant-loop-at

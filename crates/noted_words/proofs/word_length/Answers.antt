@@ -1,9 +1,6 @@
 use mathlib.Core.Path.{◌≡◌}
-use mathlib.Core.List.{List}
-use Prim.Native.Nat.{ℕ, ◌+◌, ◌≤◌}
+use Prim.Native.Nat.{◌≤◌}
 use native.Mathlib.Omega.{arith}
-use lib.ListN.{length}
-use Rattle.noted_words.specs.Words.{noted_word}
 use Rattle.noted_words.proofs.Words.{word_length, word_counted}
 use Rattle.noted_words.proofs.word_length.Goals as goal
 

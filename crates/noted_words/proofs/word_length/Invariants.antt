@@ -1,10 +1,8 @@
 use mathlib.Core.Path.{◌≡◌}
 use mathlib.Core.List.{List}
 use Prim.Native.Nat.{ℕ, ◌+◌, ◌≤◌}
-use native.Mathlib.Omega.{arith}
 use lib.ListN.{length}
 use Rattle.noted_words.specs.Words.{noted_word}
-use Rattle.noted_words.proofs.Words.{word_length, word_counted}
 use Rattle.noted_words.proofs.word_length.Given as goal
 
 abbrev pub invariant-loop-at : goal.invariant-loop-at

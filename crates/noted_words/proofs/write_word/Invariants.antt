@@ -1,6 +1,4 @@
-use native.Mathlib.Omega.{arith}
 use Rattle.noted_words.specs.Writing.{Writing}
-use Rattle.noted_words.proofs.Writing.{writing_begun, left_some, writing_more, writing_done}
 use Rattle.noted_words.proofs.write_word.Given as goal
 
 abbrev pub invariant-loop-at : goal.invariant-loop-at

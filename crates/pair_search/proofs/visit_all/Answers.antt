@@ -1,7 +1,5 @@
 use mathlib.Core.Path.{◌∙◌}
-use Prim.Native.Nat.{◌-◌, ◌≤◌}
 use native.Mathlib.Omega.{arith}
-use Rattle.pair_search.specs.Queue.{Rooms, Queue}
 use Rattle.pair_search.specs.Progress.{entry_fits, still_queued, finds_over, finds_none}
 use Rattle.pair_search.proofs.visit_all.Goals as goal
 

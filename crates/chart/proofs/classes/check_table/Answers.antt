@@ -1,8 +1,5 @@
-use mathlib.Core.Path.{◌≡◌, sym}
-use Prim.Native.Nat.{◌-◌, ◌≤◌}
+use mathlib.Core.Path.{sym}
 use native.Mathlib.Omega.{arith}
-use Rattle.answer_rules.specs.declared.Checked.TheVariants.{Fine}
-use Rattle.answer_rules.specs.Stages.{each}
 use Rattle.answer_rules.proofs.Stages.{each_none, each_more, each_first}
 use Rattle.answer_rules.proofs.Loops.{each_ended}
 use Rattle.model.specs.Chart.{blocks_of}

@@ -1,14 +1,9 @@
-use mathlib.Core.Path.{◌≡◌, sym}
+use mathlib.Core.Path.{◌≡◌}
 use Prim.Native.Nat.{◌-◌, ◌≤◌}
-use native.Mathlib.Omega.{arith}
 use Rattle.answer_rules.specs.declared.Checked.TheVariants.{Fine}
 use Rattle.answer_rules.specs.Stages.{each}
-use Rattle.answer_rules.proofs.Stages.{each_none, each_more, each_first}
-use Rattle.answer_rules.proofs.Loops.{each_ended}
-use Rattle.model.specs.Chart.{blocks_of}
 use Rattle.chart_bytes.specs.Classes.{entry}
 use Rattle.chart.specs.Check.{class_check}
-use Rattle.chart.specs.Apart.{class_own, class_shared}
 use Rattle.chart.proofs.classes.check_table.Given as goal
 
 abbrev pub invariant-loop-j : goal.invariant-loop-j

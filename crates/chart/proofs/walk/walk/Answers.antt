@@ -1,7 +1,6 @@
-use Prim.Native.Nat.{◌-◌, ◌≤◌}
 use native.Mathlib.Omega.{arith}
 use lib.ListN.{set, length-set}
-use Rattle.chart.specs.Walk.{Walk, walk_start, walk_old, walk_step, walk_done}
+use Rattle.chart.specs.Walk.{walk_start, walk_old, walk_step, walk_done}
 use Rattle.chart.proofs.walk.walk.Goals as goal
 
 pub label_of-requires : goal.label_of-requires

@@ -1,7 +1,5 @@
 use Prim.Native.Nat.{◌-◌, ◌≤◌}
-use native.Mathlib.Omega.{arith}
-use lib.ListN.{set, length-set}
-use Rattle.chart.specs.Walk.{Walk, walk_start, walk_old, walk_step, walk_done}
+use Rattle.chart.specs.Walk.{Walk}
 use Rattle.chart.proofs.walk.walk.Given as goal
 
 abbrev pub invariant-loop-i : goal.invariant-loop-i

@@ -1,14 +1,8 @@
-use mathlib.Core.Path.{◌≡◌, ◌∙◌}
-use Prim.Native.Nat.{ℕ, ◌-◌, ◌≤◌}
+use mathlib.Core.Path.{◌∙◌}
 use native.Mathlib.Omega.{arith}
-use mathlib.Core.List.{List}
-use Rattle.answer_rules.specs.declared.Checked.{Checked}
-use Rattle.answer_rules.specs.declared.Checked.TheVariants.{Fine}
-use Rattle.answer_rules.specs.Stages.{each}
 use Rattle.answer_rules.proofs.Stages.{each_none}
 use Rattle.answer_rules.proofs.Loops.{each_passed, each_refused, each_ended}
-use Rattle.model.specs.Chart.{blocks_of, round_class}
-use Rattle.chart_form.specs.Form.{bar_check}
+use Rattle.model.specs.Chart.{blocks_of}
 use Rattle.chart_form.specs.Bars.{bars_first}
 use Rattle.chart_form.proofs.bars.check_bars.Invariants.{later}
 use Rattle.chart_form.proofs.bars.check_bars.Goals as goal

@@ -1,15 +1,11 @@
-use mathlib.Core.Path.{◌≡◌, ◌∙◌}
+use mathlib.Core.Path.{◌≡◌}
 use Prim.Native.Nat.{ℕ, ◌-◌, ◌≤◌}
-use native.Mathlib.Omega.{arith}
 use mathlib.Core.List.{List}
 use Rattle.answer_rules.specs.declared.Checked.{Checked}
 use Rattle.answer_rules.specs.declared.Checked.TheVariants.{Fine}
 use Rattle.answer_rules.specs.Stages.{each}
-use Rattle.answer_rules.proofs.Stages.{each_none}
-use Rattle.answer_rules.proofs.Loops.{each_passed, each_refused, each_ended}
-use Rattle.model.specs.Chart.{blocks_of, round_class}
+use Rattle.model.specs.Chart.{round_class}
 use Rattle.chart_form.specs.Form.{bar_check}
-use Rattle.chart_form.specs.Bars.{bars_first}
 use Rattle.chart_form.proofs.bars.check_bars.Given as goal
 
 -- record j against the first of its label

@@ -1,9 +1,6 @@
-use mathlib.Core.Path.{◌≡◌, sym, ◌∙◌}
-use mathlib.Core.Bool.{true}
-use Prim.Native.Nat.{◌-◌, ◌≤◌}
+use mathlib.Core.Path.{sym, ◌∙◌}
 use native.Mathlib.Omega.{arith}
 use borrow.Author.Tests.{not-true, not-false}
-use Rattle.systems.specs.Search.{all}
 use Rattle.answer_rules.proofs.Loops.{all_none, all_more, all_stop, all_ended}
 use Rattle.model.specs.Chart.{actions_of, target_of}
 use Rattle.chart_form.specs.Form.{same_bar, same_bars}

@@ -1,13 +1,9 @@
-use mathlib.Core.Path.{◌≡◌, sym, ◌∙◌}
+use mathlib.Core.Path.{◌≡◌}
 use mathlib.Core.Bool.{true}
 use Prim.Native.Nat.{◌-◌, ◌≤◌}
-use native.Mathlib.Omega.{arith}
-use borrow.Author.Tests.{not-true, not-false}
 use Rattle.systems.specs.Search.{all}
-use Rattle.answer_rules.proofs.Loops.{all_none, all_more, all_stop, all_ended}
-use Rattle.model.specs.Chart.{actions_of, target_of}
-use Rattle.chart_form.specs.Form.{same_bar, same_bars}
-use Rattle.chart_form.specs.Records.{bar_at}
+use Rattle.model.specs.Chart.{target_of}
+use Rattle.chart_form.specs.Form.{same_bar}
 use Rattle.chart_form.proofs.bars.same_bars.Given as goal
 
 abbrev pub invariant-loop-a : goal.invariant-loop-a

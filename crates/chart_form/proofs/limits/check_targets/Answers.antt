@@ -1,8 +1,4 @@
-use mathlib.Core.Path.{◌≡◌}
-use Prim.Native.Nat.{◌-◌, ◌≤◌}
 use native.Mathlib.Omega.{arith}
-use Rattle.answer_rules.specs.declared.Checked.TheVariants.{Fine}
-use Rattle.answer_rules.specs.Stages.{each}
 use Rattle.answer_rules.proofs.Stages.{each_none}
 use Rattle.answer_rules.proofs.Loops.{each_passed, each_refused, each_ended}
 use Rattle.model.specs.Chart.{actions_of}

@@ -1,8 +1,5 @@
-use mathlib.Core.Path.{◌≡◌, ap, ◌∙◌}
-use Prim.Native.Nat.{◌-◌, ◌≤◌}
+use mathlib.Core.Path.{ap, ◌∙◌}
 use native.Mathlib.Omega.{arith}
-use Rattle.answer_rules.specs.declared.Checked.TheVariants.{Fine}
-use Rattle.answer_rules.specs.Stages.{each}
 use Rattle.answer_rules.proofs.Stages.{each_none}
 use Rattle.answer_rules.proofs.Loops.{each_passed, each_refused, each_ended}
 use Rattle.model.specs.Chart.{blocks_of, next_unnamed}

@@ -1,13 +1,9 @@
-use mathlib.Core.Path.{◌≡◌, ap, ◌∙◌}
+use mathlib.Core.Path.{◌≡◌}
 use Prim.Native.Nat.{◌-◌, ◌≤◌}
-use native.Mathlib.Omega.{arith}
 use Rattle.answer_rules.specs.declared.Checked.TheVariants.{Fine}
 use Rattle.answer_rules.specs.Stages.{each}
-use Rattle.answer_rules.proofs.Stages.{each_none}
-use Rattle.answer_rules.proofs.Loops.{each_passed, each_refused, each_ended}
-use Rattle.model.specs.Chart.{blocks_of, next_unnamed}
-use Rattle.chart_form.specs.Form.{number_check, numbers_check}
-use Rattle.chart_form.specs.Records.{unnamed_none, unnamed_more}
+use Rattle.model.specs.Chart.{next_unnamed}
+use Rattle.chart_form.specs.Form.{number_check}
 use Rattle.chart_form.proofs.numbering.check_numbers.Given as goal
 
 abbrev pub invariant-loop-i : goal.invariant-loop-i

@@ -1,13 +1,9 @@
-use mathlib.Core.Path.{◌≡◌, ap, ◌∙◌}
+use mathlib.Core.Path.{◌≡◌}
 use Prim.Native.Nat.{◌-◌, ◌≤◌}
-use native.Mathlib.Omega.{arith}
 use Rattle.answer_rules.specs.declared.Checked.TheVariants.{Fine}
 use Rattle.answer_rules.specs.Stages.{each}
-use Rattle.answer_rules.proofs.Stages.{each_none}
-use Rattle.answer_rules.proofs.Loops.{each_passed, each_refused, each_ended}
-use Rattle.model.specs.Chart.{actions_of, next_in}
+use Rattle.model.specs.Chart.{next_in}
 use Rattle.chart_form.specs.Form.{order_check}
-use Rattle.chart_form.specs.Records.{next_none, next_more}
 use Rattle.chart_form.proofs.numbering.check_orders.Given as goal
 
 abbrev pub invariant-loop-a : goal.invariant-loop-a

@@ -1,8 +1,6 @@
-use mathlib.Core.Path.{◌≡◌, ap, ◌∙◌}
+use mathlib.Core.Path.{◌≡◌}
 use Prim.Native.Nat.{◌-◌, ◌≤◌}
-use native.Mathlib.Omega.{arith}
-use Rattle.model.specs.Chart.{actions_of, next_in}
-use Rattle.chart_form.specs.Records.{next_none, next_more}
+use Rattle.model.specs.Chart.{next_in}
 use Rattle.chart_form.proofs.numbering.next_in.Given as goal
 
 abbrev pub invariant-loop-a : goal.invariant-loop-a

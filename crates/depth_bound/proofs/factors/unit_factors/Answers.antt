@@ -1,8 +1,5 @@
-use Prim.Native.Nat.{ℕ, ◌-◌, ◌≤◌, ◌<◌}
 use native.Mathlib.Omega.{arith}
 use borrow.Author.Tests.{not-true, not-false}
-use Rattle.sheet_rules.specs.Decode.{decode}
-use Rattle.depth_bound.specs.Depth.{UnitRegion}
 use Rattle.depth_bound.specs.Factors.{below_more, factors_not, factors_unit}
 use Rattle.depth_bound.proofs.factors.unit_factors.Goals as goal
 

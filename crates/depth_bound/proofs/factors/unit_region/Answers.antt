@@ -1,8 +1,5 @@
-use Prim.Native.Nat.{ℕ, ◌-◌, ◌≤◌, ◌<◌}
 use native.Mathlib.Omega.{arith}
 use borrow.Author.Tests.{not-true, not-false}
-use Rattle.depth_rules.specs.DepthBound.{UnitMove}
-use Rattle.sheet_rules.specs.Decode.{move_at}
 use Rattle.depth_bound.specs.Factors.{below_more, move_tells, region_not, region_unit}
 use Rattle.depth_bound.proofs.factors.unit_region.Goals as goal
 

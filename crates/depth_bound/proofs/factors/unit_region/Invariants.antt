@@ -1,9 +1,6 @@
 use Prim.Native.Nat.{ℕ, ◌-◌, ◌≤◌, ◌<◌}
-use native.Mathlib.Omega.{arith}
-use borrow.Author.Tests.{not-true, not-false}
 use Rattle.depth_rules.specs.DepthBound.{UnitMove}
 use Rattle.sheet_rules.specs.Decode.{move_at}
-use Rattle.depth_bound.specs.Factors.{below_more, move_tells, region_not, region_unit}
 use Rattle.depth_bound.proofs.factors.unit_region.Given as goal
 
 abbrev pub invariant-loop-a : goal.invariant-loop-a

@@ -1,8 +1,5 @@
-use mathlib.Core.Path.{◌≡◌, refl}
+use mathlib.Core.Path.{◌≡◌}
 use Prim.Native.Nat.{◌-◌, ◌^◌, ◌≤◌}
-use native.Mathlib.Omega.{arith}
-use lib.Pow.{pow_pos}
-use Rattle.depth_bound.specs.Widths.{doublings_few, reach_more}
 use Rattle.depth_bound.proofs.widths.doublings_of.Given as goal
 
 abbrev pub invariant-loop-reach : goal.invariant-loop-reach

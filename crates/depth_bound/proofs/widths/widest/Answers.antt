@@ -1,7 +1,4 @@
-use Prim.Native.Nat.{ℕ, ◌-◌, ◌≤◌, ◌<◌}
 use native.Mathlib.Omega.{arith}
-use Rattle.sheet_rules.specs.Decode.{decode}
-use Rattle.depth_bound.specs.Depth.{NarrowRegion}
 use Rattle.depth_bound.specs.Widths.{box_fits, widened_le, narrow_more, narrow_all}
 use Rattle.depth_bound.proofs.widths.widest.Goals as goal
 

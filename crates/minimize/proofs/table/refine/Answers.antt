@@ -1,5 +1,4 @@
-use native.Mathlib.Omega.{arith}
-use mathlib.Core.Path.{refl, ◌∙◌}
+use mathlib.Core.Path.{refl}
 use Rattle.table_passes.specs.Steps.{answer_many, answer_done}
 use Rattle.minimize.proofs.table.refine.Goals as goal
 

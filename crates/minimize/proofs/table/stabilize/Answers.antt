@@ -1,9 +1,8 @@
 use native.Mathlib.Omega.{arith}
 use mathlib.Core.Path.{sym, ◌∙◌}
-use mathlib.Core.Logic.{⊎_elim}
 use Rattle.table_passes.specs.State.{counters_few, actions_few}
-use Rattle.table_passes.specs.Steps.{measure_in, stable_many, stable_now}
-use Rattle.table_passes.specs.Passes.{Sweeping, sweeping_first, sweeping_exact, sweeping_sure, sweeping_many, sweeping_less, sweeping_on}
+use Rattle.table_passes.specs.Steps.{stable_many, stable_now}
+use Rattle.table_passes.specs.Passes.{sweeping_first, sweeping_exact, sweeping_sure, sweeping_many, sweeping_less, sweeping_on}
 use Rattle.minimize.proofs.table.stabilize.Goals.{else-rows-n, then-rows-n+else-before-gt254}
 use Rattle.minimize.proofs.table.stabilize.Goals as goal
 

@@ -1,9 +1,5 @@
-use native.Mathlib.Omega.{arith}
-use mathlib.Core.Path.{sym, ◌∙◌}
-use mathlib.Core.Logic.{⊎_elim}
-use Rattle.table_passes.specs.State.{counters_few, actions_few}
-use Rattle.table_passes.specs.Steps.{measure_in, stable_many, stable_now}
-use Rattle.table_passes.specs.Passes.{Sweeping, sweeping_first, sweeping_exact, sweeping_sure, sweeping_many, sweeping_less, sweeping_on}
+use Rattle.table_passes.specs.Steps.{measure_in}
+use Rattle.table_passes.specs.Passes.{Sweeping}
 use Rattle.minimize.proofs.table.stabilize.Given as goal
 
 abbrev pub invariant-loop-n : goal.invariant-loop-n

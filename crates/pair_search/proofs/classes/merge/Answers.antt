@@ -1,6 +1,5 @@
-use Prim.Native.Nat.{◌-◌, ◌≤◌}
 use native.Mathlib.Omega.{arith}
-use Rattle.pair_search.specs.Classes.{Merging, merging_begun, merging_more}
+use Rattle.pair_search.specs.Classes.{merging_begun, merging_more}
 use Rattle.pair_search.proofs.classes.merge.Goals as goal
 
 pub offset_bounds-classes-x : goal.offset_bounds-classes-x

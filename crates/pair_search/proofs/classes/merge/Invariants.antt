@@ -1,6 +1,5 @@
 use Prim.Native.Nat.{◌-◌, ◌≤◌}
-use native.Mathlib.Omega.{arith}
-use Rattle.pair_search.specs.Classes.{Merging, merging_begun, merging_more}
+use Rattle.pair_search.specs.Classes.{Merging}
 use Rattle.pair_search.proofs.classes.merge.Given as goal
 
 abbrev pub invariant-loop-z : goal.invariant-loop-z

@@ -1,8 +1,6 @@
-use mathlib.Core.Path.{◌≡◌, refl, ◌∙◌}
+use mathlib.Core.Path.{◌≡◌}
 use Prim.Native.Nat.{ℕ, ◌-◌, ◌≤◌, ◌<◌}
-use native.Mathlib.Omega.{arith}
-use lib.ListN.{length, get_or, length-set}
-use Rattle.chart_bytes.specs.Classes.{store_next}
+use lib.ListN.{length, get_or}
 use Rattle.pair_search.proofs.classes.separate.Given as goal
 
 abbrev pub invariant-loop-z : goal.invariant-loop-z

@@ -1,8 +1,5 @@
-use mathlib.Core.Path.{◌∙◌}
 use Prim.Native.Nat.{◌-◌, ◌≤◌}
-use native.Mathlib.Omega.{arith}
 use Rattle.pair_search.specs.Queue.{Rooms, Queue}
-use Rattle.pair_search.specs.Progress.{over_later, still_queued, pair_done}
 use Rattle.pair_search.proofs.visiting.visit_pair.Given as goal
 
 abbrev pub invariant-loop-a : goal.invariant-loop-a

@@ -1,11 +1,7 @@
-use mathlib.Core.Path.{◌≡◌, ap, ◌∙◌}
-use mathlib.Core.List.{List}
-use Prim.Native.Nat.{ℕ, ◌-◌, ◌≤◌}
-use native.Mathlib.Omega.{arith}
-use lib.ListN.{set}
-use Rattle.model.specs.Chart.{actions_of, target_of}
-use Rattle.reader_rules.specs.Reading.{eight_targets, targets_of}
-use Rattle.reader_rules.proofs.Steps.{eight_none, eight_more}
+use mathlib.Core.Path.{◌≡◌}
+use Prim.Native.Nat.{◌-◌, ◌≤◌}
+use Rattle.model.specs.Chart.{target_of}
+use Rattle.reader_rules.specs.Reading.{eight_targets}
 use Rattle.reader.proofs.steps.targets_of.Given as goal
 
 abbrev pub invariant-loop-a : goal.invariant-loop-a

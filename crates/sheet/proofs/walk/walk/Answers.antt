@@ -1,7 +1,6 @@
-use Prim.Native.Nat.{◌-◌, ◌≤◌}
 use native.Mathlib.Omega.{arith}
 use lib.ListN.{set, length-set}
-use Rattle.sheet.specs.Walk.{Walk, at_start, walk_start, walk_old, walk_step, walk_done, number_read}
+use Rattle.sheet.specs.Walk.{at_start, walk_start, walk_old, walk_step, walk_done, number_read}
 use Rattle.sheet.proofs.walk.walk.Goals as goal
 
 pub start_of-x-requires : goal.start_of-x-requires

@@ -1,7 +1,5 @@
 use Prim.Native.Nat.{◌-◌, ◌≤◌}
-use native.Mathlib.Omega.{arith}
-use lib.ListN.{set, length-set}
-use Rattle.sheet.specs.Walk.{Walk, at_start, walk_start, walk_old, walk_step, walk_done, number_read}
+use Rattle.sheet.specs.Walk.{Walk}
 use Rattle.sheet.proofs.walk.walk.Given as goal
 
 abbrev pub invariant-loop-n : goal.invariant-loop-n

@@ -1,8 +1,7 @@
-use Prim.Native.Nat.{◌≤◌, ◌-◌}
 use native.Mathlib.Omega.{arith}
 use borrow.Author.Count.{below_more}
 use Rattle.sheet_bytes.specs.Three.{config_meant}
-use Rattle.sheet_bytes.specs.Space.{NoneBelow, region_found, region_missing, box_told}
+use Rattle.sheet_bytes.specs.Space.{region_found, region_missing, box_told}
 use Rattle.sheet_bytes.proofs.space.region_of.Goals as goal
 
 pub loop-i-init : goal.loop-i-init

@@ -1,8 +1,6 @@
 use Prim.Native.Nat.{◌≤◌, ◌-◌}
-use native.Mathlib.Omega.{arith}
-use borrow.Author.Count.{below_more}
 use Rattle.sheet_bytes.specs.Three.{config_meant}
-use Rattle.sheet_bytes.specs.Space.{NoneBelow, region_found, region_missing, box_told}
+use Rattle.sheet_bytes.specs.Space.{NoneBelow}
 use Rattle.sheet_bytes.proofs.space.region_of.Given as goal
 
 abbrev pub invariant-loop-i : goal.invariant-loop-i

@@ -1,8 +1,4 @@
-use mathlib.Core.Path.{◌≡◌}
-use Prim.Native.Nat.{◌≤◌, ◌-◌}
 use native.Mathlib.Omega.{arith}
-use Rattle.answer_rules.specs.declared.Checked.TheVariants.{Fine}
-use Rattle.answer_rules.specs.Stages.{each}
 use Rattle.answer_rules.proofs.Stages.{each_none, loop_stop, loop_more, loop_end}
 use Rattle.sheet_rules.specs.Layout.{counters_of}
 use Rattle.sheet_rules.specs.Form.{check_bound}

@@ -1,10 +1,7 @@
 use mathlib.Core.Path.{◌≡◌}
 use Prim.Native.Nat.{◌≤◌, ◌-◌}
-use native.Mathlib.Omega.{arith}
 use Rattle.answer_rules.specs.declared.Checked.TheVariants.{Fine}
 use Rattle.answer_rules.specs.Stages.{each}
-use Rattle.answer_rules.proofs.Stages.{each_none, loop_stop, loop_more, loop_end}
-use Rattle.sheet_rules.specs.Layout.{counters_of}
 use Rattle.sheet_rules.specs.Form.{check_bound}
 use Rattle.sheet_form.proofs.limits.check_bounds.Given as goal
 

@@ -1,13 +1,12 @@
 use mathlib.Core.Path.{◌≡◌, refl}
-use Prim.Native.Nat.{◌-◌, ◌≤◌, ◌<◌}
+use Prim.Native.Nat.{◌<◌}
 use native.Mathlib.Omega.{arith}
 use borrow.Author.Tests.{not-true, not-false}
-use Rattle.answer_rules.specs.declared.Checked.TheVariants.{Fine}
 use Rattle.answer_rules.specs.Stages.{each}
 use Rattle.answer_rules.proofs.Stages.{each_none, each_more}
 use Rattle.sheet_rules.specs.Layout.{regions_of, actions_of}
 use Rattle.sheet_rules.specs.Check.{check_landing}
-use Rattle.sheet_regions.specs.Shares.{landings, lands_fine, lands_refused, landings_more, landings_all, landings_first}
+use Rattle.sheet_regions.specs.Shares.{lands_fine, lands_refused, landings_more, landings_all, landings_first}
 use Rattle.sheet_regions.proofs.landing.check_landing.Goals as goal
 
 pub outer-init : goal.outer-init

@@ -1,13 +1,9 @@
-use mathlib.Core.Path.{◌≡◌, refl}
-use Prim.Native.Nat.{◌-◌, ◌≤◌, ◌<◌}
-use native.Mathlib.Omega.{arith}
-use borrow.Author.Tests.{not-true, not-false}
+use mathlib.Core.Path.{◌≡◌}
+use Prim.Native.Nat.{◌-◌, ◌≤◌}
 use Rattle.answer_rules.specs.declared.Checked.TheVariants.{Fine}
 use Rattle.answer_rules.specs.Stages.{each}
-use Rattle.answer_rules.proofs.Stages.{each_none, each_more}
-use Rattle.sheet_rules.specs.Layout.{regions_of, actions_of}
 use Rattle.sheet_rules.specs.Check.{check_landing}
-use Rattle.sheet_regions.specs.Shares.{landings, lands_fine, lands_refused, landings_more, landings_all, landings_first}
+use Rattle.sheet_regions.specs.Shares.{landings}
 use Rattle.sheet_regions.proofs.landing.check_landing.Given as goal
 
 abbrev pub invariant-loop-a : goal.invariant-loop-a

@@ -1,5 +1,5 @@
 use mathlib.Core.Path.{◌≡◌, subst, sym, ap, ◌∙◌}
-use Prim.Native.Nat.{◌+◌, ◌-◌, ◌≤◌, ◌<◌}
+use Prim.Native.Nat.{◌-◌, ◌<◌}
 use native.Mathlib.Omega.{arith}
 use Rattle.model.specs.Blocks.{volume}
 use Rattle.sheet_bytes.specs.declared.RegionBox.{RegionBox}
@@ -9,7 +9,7 @@ use Rattle.sheet_bytes.specs.Cuts.{all_three}
 use Rattle.sheet_bytes.specs.Bounds.{RangesWithin}
 use Rattle.sheet_regions.specs.Volumes.{share_three}
 use Rattle.sheet_regions.specs.Tight.{tight_three}
-use Rattle.sheet_regions.specs.Shares.{shares_three, none_taken, all_taken, taken, taken_more}
+use Rattle.sheet_regions.specs.Shares.{none_taken, all_taken, taken, taken_more}
 use Rattle.sheet_regions.proofs.landing.uncovered.Goals as goal
 
 pub volume_of-left-requires : goal.volume_of-left-requires

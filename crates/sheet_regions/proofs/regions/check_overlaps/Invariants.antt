@@ -1,10 +1,7 @@
 use mathlib.Core.Path.{◌≡◌}
 use Prim.Native.Nat.{◌≤◌, ◌-◌}
-use native.Mathlib.Omega.{arith}
 use Rattle.answer_rules.specs.declared.Checked.TheVariants.{Fine}
 use Rattle.answer_rules.specs.Stages.{each}
-use Rattle.answer_rules.proofs.Stages.{each_none, loop_stop, loop_more, loop_end}
-use Rattle.sheet_rules.specs.Layout.{regions_of}
 use Rattle.sheet_rules.specs.Check.{check_overlap}
 use Rattle.sheet_regions.proofs.regions.check_overlaps.Given as goal
 

@@ -1,9 +1,7 @@
 use mathlib.Core.Path.{◌≡◌}
 use mathlib.Core.Bool.{false}
 use Prim.Native.Nat.{ℕ, ◌≤◌, ◌<◌, ◌-◌}
-use native.Mathlib.Omega.{arith}
-use borrow.Author.Count.{below_more}
-use Rattle.sheet_regions.specs.Regions.{any_yes, any_no, same_label, same_label_lem, other_label}
+use Rattle.sheet_regions.specs.Regions.{same_label}
 use Rattle.sheet_regions.proofs.regions.label_seen.Given as goal
 
 abbrev pub invariant-loop-i : goal.invariant-loop-i

@@ -1,10 +1,7 @@
 use mathlib.Core.Path.{◌≡◌}
 use mathlib.Core.Bool.{true}
 use Prim.Native.Nat.{ℕ, ◌≤◌, ◌<◌, ◌-◌}
-use native.Mathlib.Omega.{arith}
-use borrow.Author.Count.{below_more}
-use Rattle.sheet_rules.specs.Layout.{counters_of}
-use Rattle.sheet_regions.specs.Regions.{all_yes, all_no, meeting, meets}
+use Rattle.sheet_regions.specs.Regions.{meeting}
 use Rattle.sheet_regions.proofs.regions.ranges_meet.Given as goal
 
 abbrev pub invariant-loop-v : goal.invariant-loop-v

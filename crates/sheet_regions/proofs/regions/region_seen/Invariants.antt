@@ -1,10 +1,7 @@
-use mathlib.Core.Path.{◌≡◌, sym, ◌∙◌}
+use mathlib.Core.Path.{◌≡◌}
 use mathlib.Core.Bool.{false}
 use Prim.Native.Nat.{ℕ, ◌≤◌, ◌<◌, ◌-◌}
-use native.Mathlib.Omega.{arith}
-use borrow.Author.Count.{below_more}
 use Rattle.sheet_rules.specs.Check.{overlap}
-use Rattle.sheet_regions.specs.Regions.{any_yes, any_no}
 use Rattle.sheet_regions.proofs.regions.region_seen.Given as goal
 
 abbrev pub invariant-loop-i : goal.invariant-loop-i

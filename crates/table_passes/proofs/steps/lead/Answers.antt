@@ -126,7 +126,8 @@ returns c =
     let O = c.requires.open_at in
     let i = c.args.i in
     let a = c.args.a in
+    let few = c.if-j-eq255.false in
     let P =
-    placed R S i a hi ha O c.land-x.result c.config_in.result c.land-x.ensures c.config_in.ensures c.row_for-j.ensures c.if-j-eq255.false c.flags-1.given
+    placed R S i a hi ha O c.land-x.result c.config_in.result c.land-x.ensures c.config_in.ensures c.row_for-j.ensures few c.flags-1.given
     c.bounds-1.given c.rows_with-rows.ensures in
     P.settled c.settle.new.cells c.settle.new.targets c.settle.new.flags c.settle.new.bounds c.settle.ensures.targets_after c.bounds-2-1.given c.settle.ensures.settled

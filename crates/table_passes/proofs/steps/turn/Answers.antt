@@ -1,8 +1,7 @@
 use native.Mathlib.Omega.{arith}
-use Prim.Native.Nat.{◌-◌, ◌≤◌}
 use mathlib.Core.Path.{refl, sym, ◌∙◌}
 use Rattle.table_passes.specs.State.{actions_few}
-use Rattle.table_passes.specs.Steps.{Turning, turning_begin, turning_same, turned, turned_new}
+use Rattle.table_passes.specs.Steps.{turning_begin, turning_same, turned, turned_new}
 use Rattle.table_passes.proofs.steps.turn.Goals as goal
 
 pub loop-a-init : goal.loop-a-init

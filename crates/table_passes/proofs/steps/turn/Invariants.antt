@@ -1,8 +1,5 @@
-use native.Mathlib.Omega.{arith}
 use Prim.Native.Nat.{◌-◌, ◌≤◌}
-use mathlib.Core.Path.{refl, sym, ◌∙◌}
-use Rattle.table_passes.specs.State.{actions_few}
-use Rattle.table_passes.specs.Steps.{Turning, turning_begin, turning_same, turned, turned_new}
+use Rattle.table_passes.specs.Steps.{Turning}
 use Rattle.table_passes.proofs.steps.turn.Given as goal
 
 abbrev pub invariant-loop-a : goal.invariant-loop-a

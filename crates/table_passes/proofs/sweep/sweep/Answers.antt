@@ -1,10 +1,10 @@
 use native.Mathlib.Omega.{arith}
-use Prim.Native.Nat.{◌+◌, ◌-◌, ◌≤◌}
+use Prim.Native.Nat.{◌-◌}
 use mathlib.Core.Path.{sym, ◌∙◌}
 use lib.ListN.{length-set}
 use Rattle.table_rules.specs.Arrays.{fresh_in}
 use Rattle.table_passes.specs.State.{actions_few}
-use Rattle.table_passes.specs.Passes.{Passing, pass_begin, pass_down, pass_turned, swept_new, swept}
+use Rattle.table_passes.specs.Passes.{pass_begin, pass_down, pass_turned, swept_new, swept}
 use Rattle.table_passes.proofs.sweep.sweep.Goals as goal
 
 pub bounds-bounds-511 : goal.bounds-bounds-511

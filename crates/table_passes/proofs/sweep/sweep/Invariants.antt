@@ -1,10 +1,5 @@
-use native.Mathlib.Omega.{arith}
-use Prim.Native.Nat.{◌+◌, ◌-◌, ◌≤◌}
-use mathlib.Core.Path.{sym, ◌∙◌}
-use lib.ListN.{length-set}
-use Rattle.table_rules.specs.Arrays.{fresh_in}
-use Rattle.table_passes.specs.State.{actions_few}
-use Rattle.table_passes.specs.Passes.{Passing, pass_begin, pass_down, pass_turned, swept_new, swept}
+use Prim.Native.Nat.{◌+◌, ◌≤◌}
+use Rattle.table_passes.specs.Passes.{Passing}
 use Rattle.table_passes.proofs.sweep.sweep.Given as goal
 
 abbrev pub invariant-loop-bounds : goal.invariant-loop-bounds

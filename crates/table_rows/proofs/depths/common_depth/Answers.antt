@@ -1,6 +1,4 @@
 use native.Mathlib.Omega.{arith}
-use Prim.Native.Nat.{◌-◌, ◌≤◌}
-use Rattle.table_rules.specs.Depths.{AtLeast}
 use Rattle.table_rules.proofs.Depths.{least_more}
 use Rattle.table_rows.proofs.depths.common_depth.Goals as goal
 

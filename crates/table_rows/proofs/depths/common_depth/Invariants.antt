@@ -1,7 +1,5 @@
-use native.Mathlib.Omega.{arith}
 use Prim.Native.Nat.{◌-◌, ◌≤◌}
 use Rattle.table_rules.specs.Depths.{AtLeast}
-use Rattle.table_rules.proofs.Depths.{least_more}
 use Rattle.table_rows.proofs.depths.common_depth.Given as goal
 
 abbrev pub invariant-loop-k : goal.invariant-loop-k

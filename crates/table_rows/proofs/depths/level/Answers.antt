@@ -1,7 +1,5 @@
 use native.Mathlib.Omega.{arith}
-use Prim.Native.Nat.{◌-◌, ◌≤◌}
-use mathlib.Core.Logic.{inl, inr, ⊎_elim}
-use Rattle.table_rules.specs.Depths.{Levelled}
+use mathlib.Core.Logic.{inl, inr}
 use Rattle.table_rules.proofs.Depths.{levelled_none, levelled_more}
 use Rattle.table_rows.proofs.depths.level.Goals.{else-old-depth, then-old-depth}
 use Rattle.table_rows.proofs.depths.level.Goals as goal

@@ -1,6 +1,5 @@
 use native.Mathlib.Omega.{arith}
-use Prim.Native.Nat.{◌+◌, ◌*◌, ◌-◌, ◌≤◌}
-use Rattle.table_rules.specs.Depths.{DeepBelow}
+use Prim.Native.Nat.{◌+◌, ◌*◌}
 use Rattle.table_rules.proofs.Depths.{below_more}
 use Rattle.table_rows.proofs.depths.reached_depth.Goals as goal
 

@@ -1,7 +1,5 @@
-use native.Mathlib.Omega.{arith}
-use Prim.Native.Nat.{◌+◌, ◌*◌, ◌-◌, ◌≤◌}
+use Prim.Native.Nat.{◌-◌, ◌≤◌}
 use Rattle.table_rules.specs.Depths.{DeepBelow}
-use Rattle.table_rules.proofs.Depths.{below_more}
 use Rattle.table_rows.proofs.depths.reached_depth.Given as goal
 
 abbrev pub invariant-loop-a : goal.invariant-loop-a

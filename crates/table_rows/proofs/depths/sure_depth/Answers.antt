@@ -1,4 +1,3 @@
-use native.Mathlib.Omega.{arith}
 use Rattle.table_rules.specs.Depths.{sure_known, sure_each}
 use Rattle.table_rows.proofs.depths.sure_depth.Goals as goal
 

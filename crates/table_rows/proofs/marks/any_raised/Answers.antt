@@ -1,6 +1,4 @@
 use native.Mathlib.Omega.{arith}
-use Prim.Native.Nat.{◌-◌, ◌≤◌}
-use Rattle.table_rules.specs.Marks.{DownBelow}
 use Rattle.table_rules.proofs.Marks.{below_more, any_here, any_none}
 use Rattle.table_rows.proofs.marks.any_raised.Goals as goal
 

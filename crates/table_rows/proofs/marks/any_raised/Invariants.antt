@@ -1,7 +1,5 @@
-use native.Mathlib.Omega.{arith}
 use Prim.Native.Nat.{◌-◌, ◌≤◌}
 use Rattle.table_rules.specs.Marks.{DownBelow}
-use Rattle.table_rules.proofs.Marks.{below_more, any_here, any_none}
 use Rattle.table_rows.proofs.marks.any_raised.Given as goal
 
 abbrev pub invariant-loop-b : goal.invariant-loop-b

@@ -1,7 +1,4 @@
 use native.Mathlib.Omega.{arith}
-use Prim.Native.Nat.{◌≤◌}
-use borrow.Author.Tests.{not-true, not-false}
-use Rattle.table_rules.specs.Marks.{DownFrom}
 use Rattle.table_rules.proofs.Marks.{from_more}
 use Rattle.table_rows.proofs.marks.last_raised.Goals as goal
 

@@ -1,5 +1,4 @@
 use native.Mathlib.Omega.{arith}
-use Prim.Native.Nat.{◌-◌, ◌≤◌}
 use mathlib.Core.Path.{subst}
 use Rattle.table_rules.specs.Marks.{RaisedTo}
 use Rattle.table_rules.proofs.Marks.{raised_none, raised_more}

@@ -1,8 +1,5 @@
-use native.Mathlib.Omega.{arith}
 use Prim.Native.Nat.{◌-◌, ◌≤◌}
-use mathlib.Core.Path.{subst}
 use Rattle.table_rules.specs.Marks.{RaisedTo}
-use Rattle.table_rules.proofs.Marks.{raised_none, raised_more}
 use Rattle.table_rows.proofs.marks.raise.Given as goal
 
 abbrev pub invariant-loop-b : goal.invariant-loop-b

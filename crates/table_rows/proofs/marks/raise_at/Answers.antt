@@ -1,7 +1,6 @@
 use native.Mathlib.Omega.{arith}
-use Prim.Native.Nat.{◌+◌, ◌-◌, ◌≤◌}
+use Prim.Native.Nat.{◌+◌}
 use mathlib.Core.Path.{subst, ◌∙◌}
-use mathlib.Core.Logic.{⊎_elim}
 use lib.ListN.{get_or}
 use Rattle.table_rules.specs.Marks.{raised_by, StoredFrom}
 use Rattle.table_rules.proofs.Marks.{raised_up, raised_left, stored_none, stored_more}

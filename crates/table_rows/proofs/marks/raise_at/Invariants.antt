@@ -1,10 +1,6 @@
-use native.Mathlib.Omega.{arith}
 use Prim.Native.Nat.{◌+◌, ◌-◌, ◌≤◌}
-use mathlib.Core.Path.{subst, ◌∙◌}
-use mathlib.Core.Logic.{⊎_elim}
 use lib.ListN.{get_or}
 use Rattle.table_rules.specs.Marks.{raised_by, StoredFrom}
-use Rattle.table_rules.proofs.Marks.{raised_up, raised_left, stored_none, stored_more}
 use Rattle.table_rows.proofs.marks.raise_at.Given as goal
 
 abbrev pub invariant-loop-k : goal.invariant-loop-k

@@ -1,7 +1,5 @@
 use native.Mathlib.Omega.{arith}
-use Prim.Native.Nat.{◌-◌, ◌≤◌}
 use mathlib.Core.Path.{sym, ◌∙◌}
-use Rattle.table_rules.specs.Meaning.{NoneHolds}
 use Rattle.table_rules.proofs.Meaning.{none_holds_more, found_here, found_none}
 use Rattle.table_rows.proofs.search.scan.Goals as goal
 

@@ -1,5 +1,4 @@
 use native.Mathlib.Omega.{arith}
-use mathlib.Core.Path.{refl}
 use Rattle.sheet_bytes.specs.Three.{config_meant}
 use Rattle.table_rules.proofs.Meaning.{covered_few}
 use Rattle.table_rules.proofs.Growth.{cells_new, homes_new}

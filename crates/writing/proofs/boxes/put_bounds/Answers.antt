@@ -1,7 +1,6 @@
 use native.Mathlib.Omega.{arith}
-use Prim.Native.Nat.{ℕ, ◌+◌, ◌*◌, ◌-◌, ◌≤◌}
+use Prim.Native.Nat.{ℕ, ◌+◌, ◌*◌}
 use mathlib.Core.Path.{◌≡◌, refl, ap, ◌∙◌}
-use lib.ListN.{length}
 use Rattle.systems.specs.Lists.{collect}
 use Rattle.writing.specs.Stored.{stored, stored_start, stored_more}
 use Rattle.writing.specs.BoxBytes.{bound_bytes, bounds_bytes, bound_length, bound_room}

@@ -1,10 +1,9 @@
-use native.Mathlib.Omega.{arith}
-use Prim.Native.Nat.{ℕ, ◌+◌, ◌*◌, ◌-◌, ◌≤◌}
-use mathlib.Core.Path.{◌≡◌, refl, ap, ◌∙◌}
+use Prim.Native.Nat.{◌-◌, ◌≤◌}
+use mathlib.Core.Path.{◌≡◌}
 use lib.ListN.{length}
 use Rattle.systems.specs.Lists.{collect}
-use Rattle.writing.specs.Stored.{stored, stored_start, stored_more}
-use Rattle.writing.specs.BoxBytes.{bound_bytes, bounds_bytes, bound_length, bound_room}
+use Rattle.writing.specs.Stored.{stored}
+use Rattle.writing.specs.BoxBytes.{bound_bytes}
 use Rattle.writing.proofs.boxes.put_bounds.Given as goal
 
 abbrev pub invariant-loop-b : goal.invariant-loop-b

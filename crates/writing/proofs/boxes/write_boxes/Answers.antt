@@ -1,12 +1,10 @@
 use native.Mathlib.Omega.{arith}
-use Prim.Native.Nat.{ℕ, ◌+◌, ◌*◌, ◌-◌, ◌≤◌}
-use mathlib.Core.Path.{◌≡◌, refl}
+use Prim.Native.Nat.{ℕ, ◌+◌, ◌*◌}
+use mathlib.Core.Path.{refl}
 use mathlib.Core.List.{List}
-use lib.ListN.{length}
-use Rattle.systems.specs.Lists.{collect}
 use Rattle.sheet_rules.proofs.Shape.{width_few}
 use Rattle.writing.specs.Numbers.{entry_in}
-use Rattle.writing.specs.Stored.{stored, stored_start, stored_more, rows_le, rows_small}
+use Rattle.writing.specs.Stored.{stored_start, stored_more, rows_le, rows_small}
 use Rattle.writing.specs.BoxBytes.{row_bytes, rows_length, record_small, boxes_stored}
 use Rattle.writing.proofs.boxes.write_boxes.Goals as goal
 

@@ -1,7 +1,6 @@
 use native.Mathlib.Omega.{arith}
-use Prim.Native.Nat.{ℕ, ◌+◌, ◌*◌, ◌-◌, ◌≤◌}
+use Prim.Native.Nat.{ℕ, ◌+◌, ◌*◌}
 use mathlib.Core.Path.{◌≡◌, refl, ap, ◌∙◌}
-use lib.ListN.{length}
 use Rattle.systems.specs.Lists.{collect}
 use Rattle.sheet_bytes.specs.Fields.{actions_limit}
 use Rattle.writing.specs.Stored.{stored, stored_start, stored_more, rows_le, rows_small}

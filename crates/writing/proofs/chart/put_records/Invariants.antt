@@ -1,11 +1,9 @@
-use native.Mathlib.Omega.{arith}
-use Prim.Native.Nat.{ℕ, ◌+◌, ◌*◌, ◌-◌, ◌≤◌}
-use mathlib.Core.Path.{◌≡◌, refl, ap, ◌∙◌}
+use Prim.Native.Nat.{◌-◌, ◌≤◌}
+use mathlib.Core.Path.{◌≡◌}
 use lib.ListN.{length}
 use Rattle.systems.specs.Lists.{collect}
-use Rattle.sheet_bytes.specs.Fields.{actions_limit}
-use Rattle.writing.specs.Stored.{stored, stored_start, stored_more, rows_le, rows_small}
-use Rattle.writing.specs.ChartBytes.{ordered_bytes, records_bytes, records_length}
+use Rattle.writing.specs.Stored.{stored}
+use Rattle.writing.specs.ChartBytes.{ordered_bytes}
 use Rattle.writing.proofs.chart.put_records.Given as goal
 
 abbrev pub invariant-loop-k : goal.invariant-loop-k

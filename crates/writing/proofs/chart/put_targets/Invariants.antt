@@ -1,13 +1,9 @@
-use native.Mathlib.Omega.{arith}
-use Prim.Native.Nat.{ℕ, ◌+◌, ◌*◌, ◌-◌, ◌≤◌}
-use mathlib.Core.Path.{◌≡◌, refl, ap, ◌∙◌}
-use lib.ListN.{length, set, length-set}
+use Prim.Native.Nat.{◌-◌, ◌≤◌}
+use mathlib.Core.Path.{◌≡◌}
+use lib.ListN.{length}
 use Rattle.systems.specs.Lists.{collect}
-use Rattle.systems.proofs.Lists.{length_each}
-use Rattle.table_rules.specs.Arrays.{target_in}
-use Rattle.writing.specs.Numbers.{entry_in}
-use Rattle.writing.specs.Stored.{stored, stored_start, stored_one, stored_more}
-use Rattle.writing.specs.ChartBytes.{target_byte, target_bytes}
+use Rattle.writing.specs.Stored.{stored}
+use Rattle.writing.specs.ChartBytes.{target_byte}
 use Rattle.writing.proofs.chart.put_targets.Given as goal
 
 abbrev pub invariant-loop-a : goal.invariant-loop-a

@@ -1,8 +1,7 @@
 use native.Mathlib.Omega.{arith}
-use Prim.Native.Nat.{◌-◌, ◌≤◌}
 use lib.ListN.{length-set}
 use mathlib.Core.Path.{◌∙◌}
-use Rattle.writing.specs.Numbers.{OrderRoom, NumberRoom, Walked, walked_first, walked_done}
+use Rattle.writing.specs.Numbers.{walked_first, walked_done}
 use Rattle.writing.proofs.numbering.number_rows.Goals as goal
 
 pub bounds-order-0 : goal.bounds-order-0

@@ -1,8 +1,5 @@
-use native.Mathlib.Omega.{arith}
 use Prim.Native.Nat.{◌-◌, ◌≤◌}
-use lib.ListN.{length-set}
-use mathlib.Core.Path.{◌∙◌}
-use Rattle.writing.specs.Numbers.{OrderRoom, NumberRoom, Walked, walked_first, walked_done}
+use Rattle.writing.specs.Numbers.{OrderRoom, NumberRoom, Walked}
 use Rattle.writing.proofs.numbering.number_rows.Given as goal
 
 abbrev pub invariant-loop-m : goal.invariant-loop-m

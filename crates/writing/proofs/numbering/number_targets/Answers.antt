@@ -1,6 +1,5 @@
 use native.Mathlib.Omega.{arith}
-use Prim.Native.Nat.{◌-◌, ◌≤◌}
-use Rattle.writing.specs.Numbers.{OrderRoom, NumberRoom, Walked, walked_next}
+use Rattle.writing.specs.Numbers.{walked_next}
 use Rattle.writing.proofs.numbering.number_targets.Goals as goal
 
 pub loop-a-init : goal.loop-a-init

@@ -1,6 +1,5 @@
-use native.Mathlib.Omega.{arith}
 use Prim.Native.Nat.{◌-◌, ◌≤◌}
-use Rattle.writing.specs.Numbers.{OrderRoom, NumberRoom, Walked, walked_next}
+use Rattle.writing.specs.Numbers.{OrderRoom, NumberRoom, Walked}
 use Rattle.writing.proofs.numbering.number_targets.Given as goal
 
 abbrev pub invariant-loop-a : goal.invariant-loop-a
