@@ -20,8 +20,8 @@ use Rattle.answer_rules.proofs.Stages.{then_fine}
 use Rattle.answer_rules.specs.Run.{run_checks, noted_at, ran_by, left_by}
 use Rattle.answer_rules.specs.Sequence.{Runs}
 use Rattle.answer_rules.proofs.Sequence.{sequence_passed}
-use Rattle.answer_rules.specs.Walk as Any
-use Rattle.answer_rules.proofs.Walk as Any_proofs
+use Rattle.answer_rules.specs.Walk as AnyWalk
+use Rattle.answer_rules.proofs.Walk as WalkLaws
 use Rattle.model.specs.declared.Rule.{Rule}
 use Rattle.model.specs.Sheet as Model
 use Rattle.model.specs.Sheet.{Configuration, Box, Region, Covered, WellFormed, within, in_box, applied, moved, step, region_of, region_number, sheet_system, sheet_reading, RuleFits, Each, MoveFits, open_fits}
@@ -104,7 +104,7 @@ pub record At (s : List ℕ) (x : Config) (i : ℕ) : Type 0 where
 -- What one action does from a configuration: where the walk is then, the entry that it writes, and whether it was barred.
 pub record Acts (s : List ℕ) (x : Config) (a : ℕ) (r : Acted) : Type 0 where
   pub place : At s r.config r.region
-  pub took : Any.Took (sheet_system (decode s)) (config_meant (counters_of s) x) (step (decode s) a (config_meant (counters_of s) x))
+  pub took : AnyWalk.Took (sheet_system (decode s)) (config_meant (counters_of s) x) (step (decode s) a (config_meant (counters_of s) x))
       (config_meant (counters_of s) r.config) r.entry r.barred
 
 -- a padded rule past the counters sets to 0
@@ -220,7 +220,7 @@ module _ (s : List ℕ) (B : Bytes s) (e : sheet_check s ≡ Fine) where
 
     -- So one action does what its move says: a barred one leaves everything as it is,
     pub acts_barred : m.kind ≡ Barred → Acts s x a (record { config = x; region = i; entry = 65535; barred = true })
-    acts_barred q = record { place = k; took = Any_proofs.took_barred (sheet_system (decode s)) (config_meant (counters_of s) x) (does_nothing q) }
+    acts_barred q = record { place = k; took = WalkLaws.took_barred (sheet_system (decode s)) (config_meant (counters_of s) x) (does_nothing q) }
 
     -- an open one leads where the code lands.
     pub acts_open : (y : Config) (j v : ℕ) → m.kind ≡ Open → y ≡ land_three m x → j ≡ region_number (decode s) (config_meant (counters_of s) y) → v ≡ label_at s j
@@ -230,14 +230,14 @@ module _ (s : List ℕ) (B : Bytes s) (e : sheet_check s ≡ Fine) where
         record {
           place = p;
           took =
-              Any_proofs.took_open (sheet_system (decode s)) (config_meant (counters_of s) x) (config_meant (counters_of s) y) v
+              WalkLaws.took_open (sheet_system (decode s)) (config_meant (counters_of s) x) (config_meant (counters_of s) y) v
               (does_land q ∙ ap (λ (z : Config). some (config_meant (counters_of s) z)) (sym r)) (at_label y j v p u);
         }
 
 -- The walk on a sheet that passed its check: where it is, which action was barred first, and what it has written.
 pub record Walk (s w old : List ℕ) (n : ℕ) (x : Config) (i : ℕ) (first : FirstBarred) (ls : List ℕ) : Type 0 where
   pub place : At s x i
-  pub walked : Any.Walk (sheet_system (decode s)) (start_of s) w old n (config_meant (counters_of s) x) first ls
+  pub walked : AnyWalk.Walk (sheet_system (decode s)) (start_of s) w old n (config_meant (counters_of s) x) first ls
 
 module _ (s w : List ℕ) (B : Bytes s) (e : sheet_check s ≡ Fine) where
   pub walk_start : (old : List ℕ) (x : Config) (i v : ℕ) → 0 < length old → x ≡ start_three s
@@ -247,14 +247,14 @@ module _ (s w : List ℕ) (B : Bytes s) (e : sheet_check s ≡ Fine) where
       let y : config_meant (counters_of s) x ≡ start_of s = ap (config_meant (counters_of s)) d ∙ start_meant s (stages s e).shape in
       record {
         place = k;
-        walked = subst (λ (z : Configuration). Any.Walk (sheet_system (decode s)) (start_of s) w (set old 0 v) 0 z Nothing (set old 0 v)) (sym y)
-            (Any_proofs.walk_start (sheet_system (decode s)) (start_of s) w old v h
+        walked = subst (λ (z : Configuration). AnyWalk.Walk (sheet_system (decode s)) (start_of s) w (set old 0 v) 0 z Nothing (set old 0 v)) (sym y)
+            (WalkLaws.walk_start (sheet_system (decode s)) (start_of s) w old v h
             (at_label s B e x i v k r ∙ ap (λ (z : Configuration). (sheet_system (decode s)).label z) y));
       }
 
   pub walk_old : (old : List ℕ) (v n : ℕ) (x : Config) (i : ℕ) (first : FirstBarred) (ls : List ℕ) → Walk s w (set old 0 v) n x i first ls → Walk s w old n x i first ls
   walk_old old v n x i first ls k =
-      record { place = k.place; walked = Any_proofs.walk_old (sheet_system (decode s)) (start_of s) w old v n (config_meant (counters_of s) x) first ls k.walked }
+      record { place = k.place; walked = WalkLaws.walk_old (sheet_system (decode s)) (start_of s) w old v n (config_meant (counters_of s) x) first ls k.walked }
 
   -- one action
   pub walk_step : (old ls : List ℕ) (n : ℕ) (x : Config) (i : ℕ) (first next : FirstBarred) (r : Acted) → Walk s w old n x i first ls → n < length w → n + 1 < length ls
@@ -264,8 +264,8 @@ module _ (s w : List ℕ) (B : Bytes s) (e : sheet_check s ≡ Fine) where
       record {
         place = a.place;
         walked =
-            subst (λ (f : FirstBarred). Any.Walk (sheet_system (decode s)) (start_of s) w old (n + 1) (config_meant (counters_of s) r.config) f (set ls (n + 1) r.entry)) (sym d)
-            (Any_proofs.walk_step (sheet_system (decode s)) (start_of s) w old ls n r.entry r.barred (config_meant (counters_of s) x) (config_meant (counters_of s) r.config) first k.walked
+            subst (λ (f : FirstBarred). AnyWalk.Walk (sheet_system (decode s)) (start_of s) w old (n + 1) (config_meant (counters_of s) r.config) f (set ls (n + 1) r.entry)) (sym d)
+            (WalkLaws.walk_step (sheet_system (decode s)) (start_of s) w old ls n r.entry r.barred (config_meant (counters_of s) x) (config_meant (counters_of s) r.config) first k.walked
             hw hl a.took);
       }
 
@@ -273,7 +273,7 @@ module _ (s w : List ℕ) (B : Bytes s) (e : sheet_check s ≡ Fine) where
   pub walk_done : (old ls : List ℕ) (n : ℕ) (x : Config) (i : ℕ) (first : FirstBarred) → Walk s w old n x i first ls → n ≡ length w → n < length ls
       → (Done (length w + 1) first ≡ ran_by Fine (sheet_reading (decode s) w)) × (ls ≡ left_by Fine (sheet_reading (decode s) w) old)
   unfolding sheet_reading decode
-  walk_done old ls n x i first k q h = Any_proofs.walk_done (sheet_system (decode s)) (start_of s) w old ls n (config_meant (counters_of s) x) first k.walked q h
+  walk_done old ls n x i first k q h = WalkLaws.walk_done (sheet_system (decode s)) (start_of s) w old ls n (config_meant (counters_of s) x) first k.walked q h
 
 -- what the readers answer, by the sheet's own counts
 pub number_read : {s : List ℕ} {shape : Shape} → Read s shape → (x : Config) (i : ℕ) → i ≡ region_number (decode s) (config_meant shape.counters x)
