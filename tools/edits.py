@@ -14,7 +14,7 @@ NAMES = "not in scope|cannot be named|can be named from here|has no field|has no
 # an answer that reads a place which the code has no more is of the second kind too: its record is named, and the rest stands on the next line
 NEEDS = r": record `[^`]*\.Lts\."
 FOLLOWS = "not admitted|was rejected|declarations? that depends? on"
-LIMIT = "antt ran out of|outgrew the memory limit|stopped at the step limit"
+LIMIT = "antt ran out of|outgrew the memory limit|stopped at the step limit|gave up at one of its limits"
 FACT = "`[^`]*`: (?!this clause)|it is not proved|`search` did not prove"
 
 # of a goal that was left to `search`, and that no values are known to make false
