@@ -129,13 +129,25 @@ def body(file, name):
     return found[2] if found else ""
 
 
+def source_of(folder, inner):
+    """The source file of the function whose proofs stand in a folder, named from `proofs`. The folder of a method names its type's module, and the method
+    may stand in another."""
+    *module, name = inner
+    if module and module[-1][0].isupper():
+        for file in sorted((folder / "src").rglob("*.rt")):
+            text = file.read_text(encoding="utf-8")
+            if re.search(rf"^impl\b.*\b{module[-1]}\b", text, re.M) and name in (function for _, function in functions(file)):
+                return file.relative_to(folder).as_posix()
+    root = "lib" if (folder / "src" / "lib.rt").exists() else "main"
+    return f"src/{'/'.join(module) or root}.rt"
+
+
 def place_of(crate, name, line, said):
     """The declaration where an error of an edited crate stands, as `src/file.rt#function`, `specs/File.antt#name` or `proofs/File.antt#name`. An edit
     changes no line's number."""
     folder, path = pathlib.Path("crates", crate), pathlib.PurePath(name)
     if path.parts[0] == "proofs" and path.name in ("Answers.antt", "Invariants.antt", "Proof.antt"):
-        module = "/".join(path.parts[1:-2]) or ("lib" if (folder / "src" / "lib.rt").exists() else "main")
-        return f"src/{module}.rt#{path.parts[-2]}"
+        return f"{source_of(folder, path.parts[1:-1])}#{path.parts[-2]}"
     if path.parts[0] == "src":
         above = [function for start, function in functions(folder / name) if start <= line]
         return f"{name}#{above[-1]}" if above else name

@@ -1,5 +1,5 @@
 -- What the code rests on: from the chart that a making wrote to the way, and from its refusals to those of a way.
-use Rattle.std.specs.Prelude.{◌≡◌, refl, ℕ, ◌+◌, ◌*◌, ◌-◌, ◌≤◌, ◌<◌, leb, ltb, length, get_or, take}
+use Rattle.std.specs.Prelude.{◌≡◌, refl, ℕ, ◌+◌, ◌*◌, ◌-◌, ◌≤◌, ◌<◌, leb, ltb, length, get_or, take, Result, Ok, Err}
 use Rattle.std.proofs.Math.Path.{sym, ap, subst}
 use Rattle.std.proofs.Common.{◌∙◌, mul-le-mul_right, arith, get_or-take, ltb-true, leb-true, le-ltb}
 use Rattle.std.proofs.Math.Bool.{not}
@@ -7,8 +7,9 @@ use mathlib.Core.List.{List, []}
 use Rattle.std.proofs.lemmas.List.{length-replicate}
 use Rattle.integers.specs.LittleEndian.{Bytes}
 use Rattle.exploration.specs.FirstWords.{NumberedAsNamed, Along}
-use Rattle.answer_rules.specs.declared.Checked.{Checked}
-use Rattle.answer_rules.specs.declared.Checked.TheVariants.{Fine, Refused}
+use Rattle.answer_rules.specs.declared.Reason.TheVariants.{Blocks, Room, Block}
+use Rattle.answer_rules.specs.declared.Refusal.{Refusal}
+use Rattle.answer_rules.specs.Refusal.{Checked, at}
 use Rattle.answer_rules.specs.Stages.{demand}
 use Rattle.answer_rules.proofs.Stages.{passed, refused, then_fine, demand_fine, demand_passed, demand_failed}
 use Rattle.answer_rules.specs.Run.{overwrite}
@@ -26,12 +27,9 @@ use Rattle.sheet_rules.specs.Check.{sheet_check}
 use Rattle.sheet_rules.proofs.Accepted.{accepted}
 use Rattle.chart_bytes.specs.Shape.{Shaped, Counted}
 use Rattle.chart.specs.Accepted.{rules_shaped}
-use Rattle.making_rules.specs.declared.Made.{Made}
-use Rattle.making_rules.specs.declared.Made.TheVariants.{Done}
 use Rattle.making_rules.specs.Making.{make_checks, made_by, written_by}
 use Rattle.making_rules.specs.Claims.{made, chart_left, block_count, chart_length, Suffices}
 use Rattle.making_rules.proofs.Proofs.{demand_2, chart_written}
-use Rattle.access_rules.specs.declared.Access.{Access}
 use Rattle.access_rules.specs.Access.{request_checks, way_checks, way_to, answered_by}
 use Rattle.access_rules.proofs.Theorems.{along_way}
 use Rattle.access_rules.specs.Machine.{Accesses, zeros, Charted}
@@ -40,54 +38,57 @@ use Rattle.access_rules.specs.Machine.{Accesses, zeros, Charted}
 pub request_by : (c : List ℕ) (k room : ℕ) {n : ℕ} {r : Checked} → n ≡ blocks_of c → r ≡ request_checks n k room → r ≡ request_checks (blocks_of c) k room
 request_by c k room e q = q ∙ ap (λ (m : ℕ). request_checks m k room) e
 
+fine_refused : {why : Refusal} → ◌≡◌ {A = Checked} (Ok tt) (Err why) → ⊥
+fine_refused e = absurd cc
+
 -- a request that is refused, and one that is not
-pub accesses_refused : (c : List ℕ) (k n p : ℕ) (old : List ℕ) {r : Checked} → r ≡ request_checks (blocks_of c) k (length old) → r ≡ Refused n p
-    → Accesses c k (Access.Refused n p) old old
+pub accesses_refused : (c : List ℕ) (k : ℕ) (old : List ℕ) {r : Checked} {why : Refusal} → r ≡ request_checks (blocks_of c) k (length old) → r ≡ Err why
+    → Accesses c k (Err why) old old
 unfolding answered_by written_by
-accesses_refused c k n p old e q =
+accesses_refused c k old e q =
     let f = sym e ∙ q in
     record {
       word = [];
-      along = λ g. let z : ◌≡◌ {A = ℕ} 0 1 = cc in absurd (omega arith);
+      along = λ g. absurd (fine_refused (sym g ∙ f));
       answer = ap (λ (x : Checked). answered_by x []) (sym f);
       left = ap (λ (x : Checked). written_by x [] old) (sym f);
     }
 
-pub accesses_done : (c : List ℕ) (k l : ℕ) (w old new : List ℕ) {r : Checked} → r ≡ request_checks (blocks_of c) k (length old) → r ≡ Fine
-    → Along (chart_system c) k w → l ≡ length w → new ≡ overwrite w old → Accesses c k (Access.Done l) old new
+pub accesses_done : (c : List ℕ) (k l : ℕ) (w old new : List ℕ) {r : Checked} → r ≡ request_checks (blocks_of c) k (length old) → r ≡ Ok tt
+    → Along (chart_system c) k w → l ≡ length w → new ≡ overwrite w old → Accesses c k (Ok l) old new
 unfolding answered_by written_by
 accesses_done c k l w old new e q A h g =
     let f = sym e ∙ q in
     record {
       word = w;
       along = λ _. A;
-      answer = ap Access.Done h ∙ ap (λ (x : Checked). answered_by x w) (sym f);
+      answer = ap Ok h ∙ ap (λ (x : Checked). answered_by x w) (sym f);
       left = g ∙ ap (λ (x : Checked). written_by x w old) (sym f);
     }
 
 -- the same by other checks that say the same, and of another sequence that is the word where they pass
-same_accesses : {c : List ℕ} {k : ℕ} {r : Access} {old new : List ℕ} (A : Accesses c k r old new) (checks : Checked) (w : List ℕ)
-    → request_checks (blocks_of c) k (length old) ≡ checks → (request_checks (blocks_of c) k (length old) ≡ Fine → A.word ≡ w)
+same_accesses : {c : List ℕ} {k : ℕ} {r : Result ℕ Refusal} {old new : List ℕ} (A : Accesses c k r old new) (checks : Checked) (w : List ℕ)
+    → request_checks (blocks_of c) k (length old) ≡ checks → (request_checks (blocks_of c) k (length old) ≡ Ok tt → A.word ≡ w)
     → (r ≡ answered_by checks w) × (new ≡ written_by checks w old)
 unfolding answered_by written_by
-same_accesses {c} {k} {r} {old} {new} A Fine w e f =
+same_accesses {c} {k} {r} {old} {new} A (Ok _) w e f =
     let q = f e in (
-      A.answer ∙ ap (λ (x : Checked). answered_by x A.word) e ∙ ap (λ (v : List ℕ). answered_by Fine v) q,
-      A.left ∙ ap (λ (x : Checked). written_by x A.word old) e ∙ ap (λ (v : List ℕ). written_by Fine v old) q,
+      A.answer ∙ ap (λ (x : Checked). answered_by x A.word) e ∙ ap (λ (v : List ℕ). answered_by (Ok tt) v) q,
+      A.left ∙ ap (λ (x : Checked). written_by x A.word old) e ∙ ap (λ (v : List ℕ). written_by (Ok tt) v old) q,
     )
-same_accesses {c} {k} {r} {old} {new} A (Refused n p) w e f =
+same_accesses {c} {k} {r} {old} {new} A (Err why) w e f =
     (A.answer ∙ ap (λ (x : Checked). answered_by x A.word) e, A.left ∙ ap (λ (x : Checked). written_by x A.word old) e)
 
 -- what a request that passes says of its numbers
-pub request_passed : (n k room : ℕ) {r : Checked} → r ≡ request_checks n k room → r ≡ Fine → (k < n) × (n ≤ room + 1)
+pub request_passed : (n k room : ℕ) {r : Checked} → r ≡ request_checks n k room → r ≡ Ok tt → (k < n) × (n ≤ room + 1)
 unfolding request_checks
 request_passed n k room e q =
-    let (a, b) = then_fine (demand (ltb k n) 15 n) (demand (leb (n - 1) room) 10 (n - 1)) (sym e ∙ q) in
-    let h = leb-true (n - 1) room (demand_fine (leb (n - 1) room) 10 (n - 1) b) in
-    (ltb-true k n (demand_fine (ltb k n) 15 n a), omega arith)
+    let (a, b) = then_fine (demand (ltb k n) (at Block n)) (demand (leb (n - 1) room) (at Room (n - 1))) (sym e ∙ q) in
+    let h = leb-true (n - 1) room (demand_fine (leb (n - 1) room) (at Room (n - 1)) b) in
+    (ltb-true k n (demand_fine (ltb k n) (at Block n) a), omega arith)
 
 -- Buffers of 2,557 and 6,375 bytes suffice for the chart and the list of every accepted sheet.
-suffices : (s : List ℕ) → Bytes s → sheet_check s ≡ Fine → block_count s ≤ 255 → Suffices s (block_count s) (zeros 2557) (zeros 6375)
+suffices : (s : List ℕ) → Bytes s → sheet_check s ≡ Ok tt → block_count s ≤ 255 → Suffices s (block_count s) (zeros 2557) (zeros 6375)
 unfolding decode
 suffices s B a few =
     let p = length-replicate {A = ℕ} 2557 0 in
@@ -101,33 +102,32 @@ suffices s B a few =
     record { chart_room = omega (arith, W.actions_few); list_room = omega (arith, v, w) }
 
 -- A making in such buffers that is refused is refused as a way is, whatever block is asked for.
-refused_made : (s : List ℕ) (k room number returned : ℕ) → Bytes s → made s (zeros 2557) (zeros 6375) ≡ Made.Refused number returned
-    → way_checks s k room ≡ Refused number returned
+refused_made : (s : List ℕ) (k room : ℕ) (why : Refusal) → Bytes s → made s (zeros 2557) (zeros 6375) ≡ Err why
+    → way_checks s k room ≡ Err why
 unfolding way_checks made_by make_checks
-refused_made s k room number returned B e = go (sheet_check s) refl
+refused_made s k room why B e = go (sheet_check s) refl
   where
-    go : (c : Checked) → sheet_check s ≡ c → way_checks s k room ≡ Refused number returned
-    go (Refused n l) d =
+    go : (c : Checked) → sheet_check s ≡ c → way_checks s k room ≡ Err why
+    go (Err why') d =
         let f = ap (λ (x : Checked). made_by x (decode s)) (refused _ d) ∙ e in
-        let u : n ≡ number = cc in
-        let v : l ≡ returned = cc in
-        sym (refused _ d) ∙ (λ i. Refused (u i) (v i))
-    go Fine a =
+        let u : why' ≡ why = cc in
+        sym (refused _ d) ∙ ap Err u
+    go (Ok _) a =
         let D = demand_2 s (zeros 2557) (zeros 6375) B in
-        let (u, v, M) = D.only_ground a (suffices s B a) number returned e in
+        let (u, M) = D.only_ground a (suffices s B a) why e in
         let m = (minimal_reachable (decode s) (accepted s B a)).refused_many.1 M in
-        sym (passed a (refused _ (sym (demand_failed (not (too_many (decode s))) 9 0 (ap not m))))) ∙ (λ i. Refused (sym u i) (sym v i))
+        sym (passed a (refused _ (sym (demand_failed (not (too_many (decode s))) (at Blocks 0) (ap not m))))) ∙ ap Err (sym u)
 
-pub way_refused : (s : List ℕ) (k number returned : ℕ) (old : List ℕ) {m : Made} → Bytes s → m ≡ made s (zeros 2557) (zeros 6375) → m ≡ Made.Refused number returned
-    → (Access.Refused number returned ≡ answered_by (way_checks s k (length old)) (way_to (decode s) k))
+pub way_refused : (s : List ℕ) (k : ℕ) (why : Refusal) (old : List ℕ) {m : Result ℕ Refusal} → Bytes s → m ≡ made s (zeros 2557) (zeros 6375) → m ≡ Err why
+    → (Err why ≡ answered_by (way_checks s k (length old)) (way_to (decode s) k))
     × (old ≡ written_by (way_checks s k (length old)) (way_to (decode s) k) old)
 unfolding answered_by written_by
-way_refused s k number returned old B e q =
-    let f = refused_made s k (length old) number returned B (sym e ∙ q) in
+way_refused s k why old B e q =
+    let f = refused_made s k (length old) why B (sym e ∙ q) in
     (ap (λ (x : Checked). answered_by x (way_to (decode s) k)) (sym f), ap (λ (x : Checked). written_by x (way_to (decode s) k) old) (sym f))
 
-pub charted : (s : List ℕ) {n : ℕ} {m : Made} {chart' : List ℕ} → Bytes s → length chart' ≡ 2557
-    → m ≡ made s (zeros 2557) (zeros 6375) → m ≡ Done n → chart' ≡ chart_left s (zeros 2557) (zeros 6375) → Charted s chart'
+pub charted : (s : List ℕ) {n : ℕ} {m : Result ℕ Refusal} {chart' : List ℕ} → Bytes s → length chart' ≡ 2557
+    → m ≡ made s (zeros 2557) (zeros 6375) → m ≡ Ok n → chart' ≡ chart_left s (zeros 2557) (zeros 6375) → Charted s chart'
 charted s {n} {m} {chart'} B l e q c =
     let d = sym e ∙ q in
     let (k, a, few, room) = (demand_2 s (zeros 2557) (zeros 6375) B).made_only n d in
@@ -182,13 +182,13 @@ module _ {s buffer : List ℕ} (C : Charted s buffer) where
       subst (λ (c : List ℕ). Shaped c × NumberedAsNamed (chart_system c) (blocks_of c)) (sym (front_chart e).1) (C.shaped, N)
 
   -- What was answered and left on it is the way.
-  pub front_way : {n : ℕ} → n ≡ record_at buffer (blocks_of buffer) → (k : ℕ) (r : Access) (old new : List ℕ) → Accesses (take n buffer) k r old new
+  pub front_way : {n : ℕ} → n ≡ record_at buffer (blocks_of buffer) → (k : ℕ) (r : Result ℕ Refusal) (old new : List ℕ) → Accesses (take n buffer) k r old new
       → (r ≡ answered_by (way_checks s k (length old)) (way_to (decode s) k)) × (new ≡ written_by (way_checks s k (length old)) (way_to (decode s) k) old)
   unfolding too_many way_checks
   front_way e k r old new D =
       let A = subst (λ (c : List ℕ). Accesses c k r old new) (front_chart e).1 D in
       let n = block_count s in
       let c = ap (λ (m : ℕ). request_checks m k (length old)) (chart_of_blocks (decode s)) in
-      let w = passed C.passes (passed (sym (demand_passed (not (too_many (decode s))) 9 0 (ap not (le-ltb 255 n C.few)))) refl) in
+      let w = passed C.passes (passed (sym (demand_passed (not (too_many (decode s))) (at Blocks 0) (ap not (le-ltb 255 n C.few)))) refl) in
       same_accesses A (way_checks s k (length old)) (way_to (decode s) k) (c ∙ w) (λ p.
       sym (along_way (decode s) C.well C.few k (request_passed n k (length old) c p).0 A.word (A.along p)))

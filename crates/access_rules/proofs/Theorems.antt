@@ -1,13 +1,14 @@
 -- What is promised of the way to a block of a sheet: there is one of fewer actions than there are blocks, it leads there with nothing barred, and no sequence
 -- that leads there is before it.
-use Rattle.std.specs.Prelude.{◌≡◌, List, ℕ, ◌≤◌, ◌<◌, ltb, length}
+use Rattle.std.specs.Prelude.{◌≡◌, List, ℕ, ◌≤◌, ◌<◌, ltb, length, Err}
 use Rattle.std.proofs.Common.{sym, arith, le-ltb}
 use Rattle.std.proofs.Math.Path.{ap, subst}
 use Rattle.systems.specs.System.{reading}
 use Rattle.systems.proofs.Dictionary.{sequence_found}
 use Rattle.exploration.specs.FirstWords.{Along}
 use Rattle.exploration.proofs.FirstWords.{along_some}
-use Rattle.answer_rules.specs.declared.Checked.TheVariants.{Refused}
+use Rattle.answer_rules.specs.declared.Reason.TheVariants.{Block}
+use Rattle.answer_rules.specs.Refusal.{at}
 use Rattle.answer_rules.proofs.Stages.{refused, demand_failed}
 use Rattle.model.specs.Sheet.{Sheet, sheet_reading, WellFormed}
 use Rattle.model.specs.Blocks.{blocks, chart_of}
@@ -16,9 +17,9 @@ use Rattle.model.proofs.ChartWords.{chart_numbered, block_word, word_below, word
 use Rattle.access_rules.specs.Access.{leads_into, or_empty, way_to, request_checks, IsWay}
 
 -- A number that no block has is refused before the buffer is looked at.
-pub unknown_first : (n k room : ℕ) → n ≤ k → request_checks n k room ≡ Refused 15 n
+pub unknown_first : (n k room : ℕ) → n ≤ k → request_checks n k room ≡ Err (at Block n)
 unfolding request_checks
-unknown_first n k room h = sym (refused _ (sym (demand_failed (ltb k n) 15 n (le-ltb k n h))))
+unknown_first n k room h = sym (refused _ (sym (demand_failed (ltb k n) (at Block n) (le-ltb k n h))))
 
 module _ (s : Sheet) (W : WellFormed s) (few : length (blocks s) ≤ 255) (k : ℕ) (h : k < length (blocks s)) where
   -- The word along the first namings of the chart is the way.

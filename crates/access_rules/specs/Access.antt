@@ -1,19 +1,17 @@
 -- The way to a block (document 02, U1; an access sequence in the field): the shortest action sequence that leads from a sheet's start to a block of its chart,
 -- and of several the first in dictionary order by action number. Definitions only.
-use Rattle.std.specs.Prelude.{◌≡◌, Bool, not, List, [], ℕ, ◌-◌, ◌<◌, leb, ltb, length}
-use Rattle.std.proofs.Math.Option.{Option, some, none}
+use Rattle.std.specs.Prelude.{◌≡◌, Bool, not, List, [], ℕ, ◌-◌, ◌<◌, leb, ltb, length, Option, Some, None, Result, Ok, Err}
 use Rattle.systems.specs.System.{Below}
 use Rattle.systems.specs.Words.{ended, shorter_lists, first_that, Sooner}
-use Rattle.answer_rules.specs.declared.Checked.{Checked}
-use Rattle.answer_rules.specs.declared.Checked.TheVariants.{Fine, Refused}
+use Rattle.answer_rules.specs.declared.Reason.TheVariants.{Blocks, Room, Block}
+use Rattle.answer_rules.specs.declared.Refusal.{Refusal}
+use Rattle.answer_rules.specs.Refusal.{Checked, at}
 use Rattle.answer_rules.specs.Stages.{and_then, demand}
 use Rattle.model.specs.Sheet.{Configuration, Sheet, in_box, sheet_system, sheet_reading}
 use Rattle.model.specs.Blocks.{class_of, blocks, block_at, too_many}
 use Rattle.model.specs.Theorems.{InBlock}
 use Rattle.sheet_rules.specs.Decode.{decode}
 use Rattle.sheet_rules.specs.Check.{sheet_check}
-use Rattle.access_rules.specs.declared.Access.{Access}
-use Rattle.access_rules.specs.declared.Access.TheVariants.{Done}
 
 -- where an action sequence leads from the sheet's start
 abbrev pub end_of : Sheet → List ℕ → Configuration
@@ -25,8 +23,8 @@ leads_into s k w = in_box (class_of s (block_at s k)) (end_of s w)
 
 -- what a search has found; there is a way to every block (Theorems.antt), so that nothing is never found
 unfoldable pub or_empty : Option (List ℕ) → List ℕ
-or_empty none = []
-or_empty (some w) = w
+or_empty None = []
+or_empty (Some w) = w
 
 -- The way to block k: of all sequences of the sheet's actions the first, by length and then in dictionary order, that leads into the block. Those of fewer
 -- actions than there are blocks are tried.
@@ -35,16 +33,16 @@ way_to s k = or_empty (first_that (leads_into s k) (shorter_lists s.actions (len
 
 -- 15 for a block number not below n, then 10 for a buffer of fewer than n - 1 bytes
 unfoldable pub request_checks : ℕ → ℕ → ℕ → Checked
-request_checks n k room = and_then (demand (ltb k n) 15 n) (demand (leb (n - 1) room) 10 (n - 1))
+request_checks n k room = and_then (demand (ltb k n) (at Block n)) (demand (leb (n - 1) room) (at Room (n - 1)))
 
 -- all checks: the sheet's, then 9 for more than 255 blocks, then 15 and 10
 unfoldable pub way_checks : List ℕ → ℕ → ℕ → Checked
-way_checks s k room = and_then (sheet_check s) (and_then (demand (not (too_many (decode s))) 9 0) (request_checks (length (blocks (decode s))) k room))
+way_checks s k room = and_then (sheet_check s) (and_then (demand (not (too_many (decode s))) (at Blocks 0)) (request_checks (length (blocks (decode s))) k room))
 
 -- the answer: the refusal, or how long the way is
-unfoldable pub answered_by : Checked → List ℕ → Access
-answered_by Fine w = Done (length w)
-answered_by (Refused n p) w = Access.Refused n p
+unfoldable pub answered_by : Checked → List ℕ → Result ℕ Refusal
+answered_by (Ok _) w = Ok (length w)
+answered_by (Err why) w = Err why
 
 -- What is promised of the way to block k of a sheet:
 pub record IsWay (s : Sheet) (k : ℕ) (w : List ℕ) : Type 0 where
@@ -53,6 +51,6 @@ pub record IsWay (s : Sheet) (k : ℕ) (w : List ℕ) : Type 0 where
   pub short : length w < length (blocks s)
   -- it leads from the start to a configuration of the block, with nothing barred on the way,
   pub arrives : InBlock s k (end_of s w)
-  pub unbarred : (sheet_reading s w).barred ≡ none
+  pub unbarred : (sheet_reading s w).barred ≡ None
   -- and no sequence that leads to one, of whatever actions, is shorter, or of that length and earlier in dictionary order
   pub first : (v : List ℕ) → InBlock s k (end_of s v) → Sooner v w → ⊥

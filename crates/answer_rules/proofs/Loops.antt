@@ -1,21 +1,19 @@
 -- Laws for code that goes stage by stage, as facts about plain values: one test, and a search by a loop.
-use Rattle.std.specs.Prelude.{◌≡◌, refl, Bool, true, false, ◌||◌, ◌&&◌, ℕ, zero, suc, ◌+◌, ◌≤◌, ◌<◌}
+use Rattle.std.specs.Prelude.{◌≡◌, refl, Bool, true, false, ◌||◌, ◌&&◌, ℕ, zero, suc, ◌+◌, ◌≤◌, ◌<◌, Result, Ok, Err, ⊤}
 use Rattle.std.proofs.Common.{sym, ap, ◌∙◌, arith, add-one, ⊎_elim}
 use Rattle.systems.specs.Search.{run, all}
 use Rattle.systems.proofs.Laws.{below_suc}
-use Rattle.answer_rules.specs.declared.Checked.{Checked}
-use Rattle.answer_rules.specs.declared.Checked.TheVariants.{Fine, Refused}
 use Rattle.answer_rules.specs.Stages.{demand, each}
 use Rattle.answer_rules.proofs.Stages.{each_more, each_first}
 
 -- one test
-pub demand_yes : {t : Bool} (n p : ℕ) → t ≡ true → Fine ≡ demand t n p
+pub demand_yes : {E : Type 0} {t : Bool} (e : E) → t ≡ true → Ok tt ≡ demand t e
 unfolding demand
-demand_yes n p e = rw e refl
+demand_yes e q = rw q refl
 
-pub demand_no : {t : Bool} {n p : ℕ} → t ≡ false → Refused n p ≡ demand t n p
+pub demand_no : {E : Type 0} {t : Bool} {e : E} → t ≡ false → Err e ≡ demand t e
 unfolding demand
-demand_no e = rw e refl
+demand_no q = rw q refl
 
 pub or_first : {a : Bool} (b : Bool) → a ≡ true → (a || b) ≡ true
 or_first b e = rw e refl
@@ -38,13 +36,13 @@ and_second true e = e
 and_second false e = refl
 
 -- a search whose loop has come to i: one more stage passes, one is refused, or none is left
-pub each_passed : (f : ℕ → Checked) (i : ℕ) {one : Checked} → each f i ≡ Fine → one ≡ f i → one ≡ Fine → each f (i + 1) ≡ Fine
+pub each_passed : {E : Type 0} (f : ℕ → Result ⊤ E) (i : ℕ) {one : Result ⊤ E} → each f i ≡ Ok tt → one ≡ f i → one ≡ Ok tt → each f (i + 1) ≡ Ok tt
 each_passed f i e h q = each_more f i e (sym h ∙ q)
 
-pub each_refused : (f : ℕ → Checked) (i n : ℕ) {one : Checked} {m p : ℕ} → each f i ≡ Fine → i < n → one ≡ f i → one ≡ Refused m p → one ≡ each f n
-each_refused f i n e l h q = q ∙ sym (each_first f i n e (sym h ∙ q) l)
+pub each_refused : {E : Type 0} (f : ℕ → Result ⊤ E) (i n : ℕ) {one : Result ⊤ E} {why : E} → each f i ≡ Ok tt → i < n → one ≡ f i → one ≡ Err why → Err why ≡ each f n
+each_refused f i n e l h q = sym (each_first f i n e (sym h ∙ q) l)
 
-pub each_ended : (f : ℕ → Checked) (i n : ℕ) → each f i ≡ Fine → i ≤ n → n ≤ i → Fine ≡ each f n
+pub each_ended : {E : Type 0} (f : ℕ → Result ⊤ E) (i n : ℕ) → each f i ≡ Ok tt → i ≤ n → n ≤ i → Ok tt ≡ each f n
 each_ended f i n e h l = let z : i ≡ n = omega arith in rw z at (sym e)
 
 -- the same for a condition on all numbers below n

@@ -1,64 +1,56 @@
 -- The walk of an action sequence on any system: the entries written so far, and what the actions that are left write from where the walk is.
-use Rattle.std.specs.Prelude.{◌≡◌, refl, Bool, true, false, get_or, set}
+use Rattle.std.specs.Prelude.{Result, ◌≡◌, refl, Bool, true, false, get_or, set, Ok, Err, Option, Some, None}
 use Rattle.std.proofs.Math.Path.{sym, ap}
 use Rattle.std.proofs.Common.{◌∙◌, take-append-drop, take-suc, drop-cons, drop-drop, get_or-set_same}
 use mathlib.Core.List.{List, [], ◌∷◌, ◌++◌, append_assoc, append-nil}
-use Rattle.std.proofs.Math.Option.{Option, some, none}
 use Prim.Native.Nat.{ℕ, suc, ◌+◌, ◌<◌}
 use native.Mathlib.Omega.{arith}
 use Rattle.std.proofs.Math.Numerals.{add-one}
 use Rattle.std.proofs.Math.ListN.{length, take, drop, length-set}
 use Rattle.std.proofs.Math.Seq.{drop-length, length-take-le, drop-set-lt}
 use Rattle.std.proofs.lemmas.List.{take-set-le}
+use Rattle.std.specs.Option.{option_or}
+use Rattle.std.specs.Bool.{then_some}
 use Rattle.systems.specs.System.{System, Reading, after, entry, written, earliest, first_barred, reading}
-use Rattle.answer_rules.specs.declared.Checked.{Checked}
-use Rattle.answer_rules.specs.declared.Checked.TheVariants.{Fine, Refused}
-use Rattle.answer_rules.specs.declared.FirstBarred.{FirstBarred}
-use Rattle.answer_rules.specs.declared.FirstBarred.TheVariants.{Nothing, At}
-use Rattle.answer_rules.specs.declared.Ran.{Ran}
-use Rattle.answer_rules.specs.declared.Ran.TheVariants.{Done}
-use Rattle.answer_rules.specs.Run.{first_of, noted_at, ran_by, overwrite, left_by}
+use Rattle.answer_rules.specs.declared.Refusal.{Refusal}
+use Rattle.answer_rules.specs.Refusal.{Checked}
+use Rattle.answer_rules.specs.declared.Run.{Run}
+use Rattle.answer_rules.specs.Run.{noted_at, ran_by, overwrite, left_by}
 use Rattle.answer_rules.specs.Walk.{is_barred, Took, resumed, Walk}
 
 -- what was barred first stays so; else an action is the first if it is barred
-pub noted_known : (first : FirstBarred) (i : ℕ) (b : Bool) {k : ℕ} → first ≡ At k → first ≡ noted_at first i b
+pub noted_or : (first : Option ℕ) (i : ℕ) (b : Bool) → option_or first (then_some b i) ≡ noted_at first i b
 unfolding noted_at
-noted_known first i b e = e ∙ ap (λ (f : FirstBarred). noted_at f i b) (sym e)
+noted_or (Some k) i b = refl
+noted_or None i true = refl
+noted_or None i false = refl
 
-pub noted_barred : (first : FirstBarred) (i : ℕ) (b : Bool) → first ≡ Nothing → b ≡ true → At i ≡ noted_at first i b
-unfolding noted_at
-noted_barred first i b e h = ap (noted_at Nothing i) (sym h) ∙ ap (λ (f : FirstBarred). noted_at f i b) (sym e)
-
-pub noted_open : (first : FirstBarred) (i : ℕ) (b : Bool) → first ≡ Nothing → b ≡ false → Nothing ≡ noted_at first i b
-unfolding noted_at
-noted_open first i b e h = ap (noted_at Nothing i) (sym h) ∙ ap (λ (f : FirstBarred). noted_at f i b) (sym e)
-
-pub took_barred : {X : Type 0} (sys : System X) (x : X) {o : Option X} → o ≡ none → Took sys x o x 65535 true
+pub took_barred : {X : Type 0} (sys : System X) (x : X) {o : Option X} → o ≡ None → Took sys x o x 65535 true
 unfolding after entry is_barred
 took_barred sys x e = record { leads = sym (ap (after x) e); writes = sym (ap (entry sys) e); bars = sym (ap is_barred e) }
 
-pub took_open : {X : Type 0} (sys : System X) (x y : X) (v : ℕ) {o : Option X} → o ≡ some y → v ≡ sys.label y → Took sys x o y v false
+pub took_open : {X : Type 0} (sys : System X) (x y : X) (v : ℕ) {o : Option X} → o ≡ Some y → v ≡ sys.label y → Took sys x o y v false
 unfolding after entry is_barred
 took_open sys x y v e d = record { leads = sym (ap (after x) e); writes = d ∙ sym (ap (entry sys) e); bars = sym (ap is_barred e) }
 
-resumed_none : (o : Option ℕ) → first_of o ≡ resumed Nothing 0 o
+resumed_none : (o : Option ℕ) → o ≡ resumed None 0 o
 unfolding resumed
-resumed_none none = refl
-resumed_none (some n) = ap (λ (k : ℕ). first_of (some k)) (omega arith)
+resumed_none None = refl
+resumed_none (Some n) = ap Some (omega arith)
 
 -- one action more
-resumed_next : {X : Type 0} (first : FirstBarred) (i : ℕ) (o : Option X) (later : Option ℕ)
+resumed_next : {X : Type 0} (first : Option ℕ) (i : ℕ) (o : Option X) (later : Option ℕ)
     → resumed first i (earliest o later) ≡ resumed (noted_at first i (is_barred o)) (suc i) later
-unfolding resumed earliest noted_at is_barred first_of
-resumed_next (At k) i o later = refl
-resumed_next Nothing i none later = ap At (omega arith)
-resumed_next Nothing i (some y) none = refl
-resumed_next Nothing i (some y) (some n) = ap At (omega arith)
+unfolding resumed earliest noted_at is_barred
+resumed_next (Some k) i o later = refl
+resumed_next None i None later = ap Some (omega arith)
+resumed_next None i (Some y) None = refl
+resumed_next None i (Some y) (Some n) = ap Some (omega arith)
 
-resumed_end : (first : FirstBarred) (i : ℕ) → resumed first i none ≡ first
-unfolding resumed first_of
-resumed_end Nothing i = refl
-resumed_end (At k) i = refl
+resumed_end : (first : Option ℕ) (i : ℕ) → resumed first i None ≡ first
+unfolding resumed
+resumed_end None i = refl
+resumed_end (Some k) i = refl
 
 -- the entries up to the last one written
 one_more : (ls : List ℕ) (i e : ℕ) → i < length ls → get_or ls i 0 ≡ e → take i ls ++ (e ∷ []) ≡ take (suc i) ls
@@ -66,7 +58,7 @@ one_more ls i e h p = ap (λ (x : ℕ). take i ls ++ (x ∷ [])) (sym p) ∙ sym
 
 module _ {X : Type 0} (sys : System X) (start : X) (w : List ℕ) where
   -- the walk begins with the label of the start written
-  pub walk_start : (old : List ℕ) (v : ℕ) → 0 < length old → v ≡ sys.label start → Walk sys start w (set old 0 v) 0 start Nothing (set old 0 v)
+  pub walk_start : (old : List ℕ) (v : ℕ) → 0 < length old → v ≡ sys.label start → Walk sys start w (set old 0 v) 0 start None (set old 0 v)
   unfolding reading
   walk_start old v h e =
       record {
@@ -77,7 +69,7 @@ module _ {X : Type 0} (sys : System X) (start : X) (w : List ℕ) where
       }
 
   -- what stood at the front before does not matter
-  pub walk_old : (old : List ℕ) (v i : ℕ) (x : X) (first : FirstBarred) (ls : List ℕ) → Walk sys start w (set old 0 v) i x first ls → Walk sys start w old i x first ls
+  pub walk_old : (old : List ℕ) (v i : ℕ) (x : X) (first : Option ℕ) (ls : List ℕ) → Walk sys start w (set old 0 v) i x first ls → Walk sys start w old i x first ls
   walk_old old v i x first ls k =
       record {
         same_length = k.same_length ∙ length-set old 0 v;
@@ -87,7 +79,7 @@ module _ {X : Type 0} (sys : System X) (start : X) (w : List ℕ) where
       }
 
   -- one action, open or barred
-  pub walk_step : (old ls : List ℕ) (i v : ℕ) (b : Bool) (x y : X) (first : FirstBarred) → Walk sys start w old i x first ls → i < length w → i + 1 < length ls
+  pub walk_step : (old ls : List ℕ) (i v : ℕ) (b : Bool) (x y : X) (first : Option ℕ) → Walk sys start w old i x first ls → i < length w → i + 1 < length ls
       → Took sys x (sys.step (get_or w i 0) x) y v b
       → Walk sys start w old (i + 1) y (noted_at first i b) (set ls (i + 1) v)
   unfolding written first_barred
@@ -130,33 +122,36 @@ module _ {X : Type 0} (sys : System X) (start : X) (w : List ℕ) where
           ∙ one_more (set ls (suc i) v) (suc i) v (omega (arith, length-set ls (suc i) v)) (get_or-set_same ls (suc i) v 0 (omega arith)))
 
   -- The walk ends after the last action.
-  pub walk_done : (old ls : List ℕ) (i : ℕ) (x : X) (first : FirstBarred) → Walk sys start w old i x first ls → i ≡ length w → i < length ls
-      → (Done (length w + 1) first ≡ ran_by Fine (reading sys w start)) × (ls ≡ left_by Fine (reading sys w start) old)
+  pub walk_done : (old ls : List ℕ) (i : ℕ) (x : X) (first : Option ℕ) → Walk sys start w old i x first ls → i ≡ length w → i < length ls
+      → (Ok (record { entries = length w + 1; barred = first }) ≡ ran_by (Ok tt) (reading sys w start)) × (ls ≡ left_by (Ok tt) (reading sys w start) old)
   unfolding ran_by left_by overwrite written first_barred
   walk_done old ls i x first k e h =
       let n : length (reading sys w start).entries ≡ suc i = ap length entries ∙ length-take-le (suc i) ls h in
       let m : length w + 1 ≡ length (reading sys w start).entries = omega arith in (
-        ap (λ (z : ℕ). Done z first) m ∙ ap (Done (length (reading sys w start).entries)) (sym barred),
+        ap (λ (z : ℕ). answer z first) m ∙ ap (answer (length (reading sys w start).entries)) (sym barred),
         sym (take-append-drop (suc i) ls) ∙ ap (λ (z : List ℕ). take (suc i) ls ++ z) k.rest
             ∙ ap (λ (z : List ℕ). z ++ drop (suc i) old) (sym entries)
             ∙ ap (λ (z : ℕ). (reading sys w start).entries ++ drop z old) (sym n),
       )
     where
+      answer : ℕ → Option ℕ → Result Run Refusal
+      answer n o = Ok (record { entries = n; barred = o })
+
       left : drop i w ≡ []
       left = ap (λ (n : ℕ). drop n w) e ∙ drop-length w
 
       entries : (reading sys w start).entries ≡ take (suc i) ls
       entries = k.read ∙ ap (λ (z : List ℕ). take (suc i) ls ++ written sys z x) left ∙ append-nil (take (suc i) ls)
 
-      barred : first_of (reading sys w start).barred ≡ first
+      barred : (reading sys w start).barred ≡ first
       barred = k.barred ∙ ap (λ (z : List ℕ). resumed first i (first_barred sys z x)) left ∙ resumed_end first i
 
 -- a run's answer and buffer by what its checks say
-pub run_done : {check : Checked} (q : Reading) (old : List ℕ) {r : Ran} {l : List ℕ} → check ≡ Fine → r ≡ ran_by Fine q → l ≡ left_by Fine q old
+pub run_done : {check : Checked} (q : Reading) (old : List ℕ) {r : Result Run Refusal} {l : List ℕ} → check ≡ Ok tt → r ≡ ran_by (Ok tt) q → l ≡ left_by (Ok tt) q old
     → (r ≡ ran_by check q) × (l ≡ left_by check q old)
 run_done q old e p h = (p ∙ ap (λ (x : Checked). ran_by x q) (sym e), h ∙ ap (λ (x : Checked). left_by x q old) (sym e))
 
-pub run_refused : {check : Checked} (q : Reading) (old : List ℕ) {n p : ℕ} → check ≡ Refused n p
-    → (Ran.Refused n p ≡ ran_by check q) × (old ≡ left_by check q old)
+pub run_refused : {check : Checked} (q : Reading) (old : List ℕ) {why : Refusal} → check ≡ Err why
+    → (Err why ≡ ran_by check q) × (old ≡ left_by check q old)
 unfolding ran_by left_by
 run_refused q old e = (ap (λ (x : Checked). ran_by x q) (sym e), ap (λ (x : Checked). left_by x q old) (sym e))

@@ -1,3 +1,4 @@
+pub mod Refusal
 pub mod Stages
 pub mod Run
 pub mod Sequence

@@ -1,19 +1,17 @@
--- Checks in stages: the first refusal wins.
-use Rattle.std.specs.Prelude.{Bool, true, false, ℕ}
+-- Checks in stages: the first error wins.
+use Rattle.std.specs.Prelude.{Bool, true, false, ℕ, Result, Ok, Err, ⊤}
 use Rattle.systems.specs.Search.{run}
-use Rattle.answer_rules.specs.declared.Checked.{Checked}
-use Rattle.answer_rules.specs.declared.Checked.TheVariants.{Fine, Refused}
 
--- the first stage's refusal, or else the second stage
-unfoldable pub and_then : Checked → Checked → Checked
-and_then Fine b = b
-and_then (Refused n p) b = Refused n p
+-- the first stage's error, or else the second stage
+unfoldable pub and_then : {T E : Type 0} → Result ⊤ E → Result T E → Result T E
+and_then (Ok _) b = b
+and_then (Err e) b = Err e
 
--- refused where the test fails
-unfoldable pub demand : Bool → ℕ → ℕ → Checked
-demand true n p = Fine
-demand false n p = Refused n p
+-- an error where the test fails
+unfoldable pub demand : {E : Type 0} → Bool → E → Result ⊤ E
+demand true e = Ok tt
+demand false e = Err e
 
--- the first refusal of the stages 0, 1, .., n - 1
-abbrev pub each : (ℕ → Checked) → ℕ → Checked
-each = run Fine and_then
+-- the first error of the stages 0, 1, .., n - 1
+abbrev pub each : {E : Type 0} → (ℕ → Result ⊤ E) → ℕ → Result ⊤ E
+each = run (Ok tt) and_then

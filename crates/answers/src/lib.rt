@@ -6,31 +6,20 @@ ghost use Rattle.std.specs.Prelude.{◌≡◌};
 ghost use Rattle.answer_rules.specs.Stages.{demand};
 ghost use Rattle.answer_rules.specs.Run.{noted_at};
 
-pub use answer_rules::{Checked, FirstBarred, Ran};
+pub use answer_rules::{Reason, Refusal, Run};
 
 pub mod sequence;
 
-// A stage of one test: refused where it fails.
-pub fn demanded(test: bool, number: u8, returned: usize) -> Checked
-    ensures { result ≡ demand test number returned }
+/// A stage of one test: an error where it fails.
+pub fn demanded<E: Copy>(test: bool, error: E) -> Result<(), E>
+    ensures { result ≡ demand test error }
 {
-    if test {
-        Checked::Fine
-    } else {
-        Checked::Refused { number, returned }
-    }
+    if test { Ok(()) } else { Err(error) }
 }
 
-// The first barred action, once the action at a further index was taken or, where it was barred, skipped.
-pub fn noted(first: FirstBarred, index: usize, barred: bool) -> FirstBarred
+/// The first barred action, once the action at a further index was taken or, where it was barred, skipped.
+pub fn noted(first: Option<usize>, index: usize, barred: bool) -> Option<usize>
     ensures { result ≡ noted_at first index barred }
 {
-    let FirstBarred::Nothing = first else {
-        return first;
-    };
-    if barred {
-        FirstBarred::At { index }
-    } else {
-        FirstBarred::Nothing
-    }
+    first.or(barred.then_some(index))
 }

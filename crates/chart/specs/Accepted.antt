@@ -1,8 +1,9 @@
 -- A chart is accepted exactly where it obeys the chart rules.
-use Rattle.std.specs.Prelude.{◌≡◌, refl, ◌↔◌, true, List, ℕ, ◌≤◌, ◌<◌, eqb, length, get_or, take}
+use Rattle.std.specs.Prelude.{◌≡◌, refl, ◌↔◌, true, List, ℕ, ◌≤◌, ◌<◌, eqb, length, get_or, take, Ok}
 use Rattle.std.proofs.Common.{sym, ap, ◌∙◌, ⊎_elim, arith, eq-or-lt_of_le, ext_get_or, get_or-take, length-take-le, eqb-true, eq-eqb}
 use Rattle.systems.proofs.Laws.{eqb_tells, true_is, is_true, all_true}
-use Rattle.answer_rules.specs.declared.Checked.TheVariants.{Fine}
+use Rattle.answer_rules.specs.declared.Reason.TheVariants.{Unparted}
+use Rattle.answer_rules.specs.Refusal.{at}
 use Rattle.answer_rules.specs.Stages.{and_then, each}
 use Rattle.answer_rules.proofs.Stages.{passed, then_fine, demand_fine, each_fine, each_all}
 use Rattle.model.specs.Blocks.{chart_mark}
@@ -41,16 +42,16 @@ own_apart c few right k n b = (
 )
 
 -- 14
-pub classes_own : (c : List ℕ) (n : ℕ) → (each (class_check c (round_class c (blocks_of c))) n ≡ Fine) ↔ ((j : ℕ) → j < n → round_class c (blocks_of c) j ≡ j)
+pub classes_own : (c : List ℕ) (n : ℕ) → (each (class_check c (round_class c (blocks_of c))) n ≡ Ok tt) ↔ ((j : ℕ) → j < n → round_class c (blocks_of c) j ≡ j)
 unfolding class_check
 classes_own c n = (
   λ e j h.
       eqb-true (round_class c (blocks_of c) j) j
-      (demand_fine (eqb (round_class c (blocks_of c) j) j) 14 (record_at c j) (each_fine (class_check c (round_class c (blocks_of c))) n e j h)),
-  λ f. each_all (class_check c (round_class c (blocks_of c))) n (λ j h. demand_pass 14 (record_at c j) (eq-eqb (round_class c (blocks_of c) j) j (f j h))),
+      (demand_fine (eqb (round_class c (blocks_of c) j) j) (at Unparted (record_at c j)) (each_fine (class_check c (round_class c (blocks_of c))) n e j h)),
+  λ f. each_all (class_check c (round_class c (blocks_of c))) n (λ j h. demand_pass Unparted (record_at c j) (eq-eqb (round_class c (blocks_of c) j) j (f j h))),
 )
 
-pub classes_right : (c : List ℕ) → blocks_of c ≤ 255 → TargetsRight c → (classes_check c ≡ Fine) ↔ ((i j : ℕ) → i < j → j < blocks_of c → ToldApart c i j)
+pub classes_right : (c : List ℕ) → blocks_of c ≤ 255 → TargetsRight c → (classes_check c ≡ Ok tt) ↔ ((i j : ℕ) → i < j → j < blocks_of c → ToldApart c i j)
 unfolding classes_check
 classes_right c few right = (
   λ e i j h l.
@@ -69,7 +70,7 @@ pub record Formed (c : List ℕ) : Type 0 where
   pub numbers : Numbered c
   pub bars : BarsAlike c
 
-pub form_passed : (c : List ℕ) → form_check c ≡ Fine → Formed c
+pub form_passed : (c : List ℕ) → form_check c ≡ Ok tt → Formed c
 unfolding form_check
 form_passed c e =
     let (p, q) = then_fine (header_check c) (and_then (limits_check c) (and_then (numbers_check c) (bars_check c))) e in
@@ -79,7 +80,7 @@ form_passed c e =
     let l = (limits_right c).0 r in
     record { mark = m; shape = h; labels = l.labels; targets = l.targets; numbers = (numbers_right c).0 t; bars = (bars_right c).0 u }
 
-pub form_passes : (c : List ℕ) → Formed c → form_check c ≡ Fine
+pub form_passes : (c : List ℕ) → Formed c → form_check c ≡ Ok tt
 unfolding form_check header_check
 form_passes c f =
     let s = f.shape in
@@ -88,7 +89,7 @@ form_passes c f =
     (passed (sym (counts_good c s.actions_some s.actions_few s.blocks_some k)) (length_right c s)) in
     sym (passed (sym h) (passed ((limits_right c).1 (record { labels = f.labels; targets = f.targets })) (passed ((numbers_right c).1 f.numbers) (sym ((bars_right c).1 f.bars)))))
   where
-    length_right : (c : List ℕ) → Shaped c → Fine ≡ length_check c
+    length_right : (c : List ℕ) → Shaped c → Ok tt ≡ length_check c
     length_right c s = length_good c (s.length_right ∙ sym (record_start c (blocks_of c)))
 
 -- the chart rules speak of the header too
@@ -104,11 +105,11 @@ rules_shaped c r =
     }
 
 -- Accepted exactly where the chart rules hold.
-pub accepted : (c : List ℕ) → (chart_check c ≡ Fine) ↔ ChartRules c
+pub accepted : (c : List ℕ) → (chart_check c ≡ Ok tt) ↔ ChartRules c
 unfolding chart_check
 accepted c = (λ e. rules (then_fine (form_check c) (classes_check c) e), back)
   where
-    rules : (form_check c ≡ Fine) × (classes_check c ≡ Fine) → ChartRules c
+    rules : (form_check c ≡ Ok tt) × (classes_check c ≡ Ok tt) → ChartRules c
     rules p =
         let f = form_passed c p.0 in
         let s = f.shape in
@@ -127,7 +128,7 @@ accepted c = (λ e. rules (then_fine (form_check c) (classes_check c) e), back)
           told_apart = (classes_right c s.blocks_few f.targets).0 p.1;
         }
 
-    back : ChartRules c → and_then (form_check c) (classes_check c) ≡ Fine
+    back : ChartRules c → and_then (form_check c) (classes_check c) ≡ Ok tt
     back r =
         let s = rules_shaped c r in
         let f : Formed c =
@@ -142,6 +143,6 @@ accepted c = (λ e. rules (then_fine (form_check c) (classes_check c) e), back)
         sym (passed (form_passes c f) (sym ((classes_right c r.blocks_few r.targets_right).1 r.told_apart)))
 
 -- what the code needs of a chart that passed
-pub check_passed : (c : List ℕ) → chart_check c ≡ Fine → Formed c
+pub check_passed : (c : List ℕ) → chart_check c ≡ Ok tt → Formed c
 unfolding chart_check
 check_passed c e = form_passed c (then_fine (form_check c) (classes_check c) e).0

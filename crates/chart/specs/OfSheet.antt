@@ -1,10 +1,9 @@
 -- A well-formed sheet with at most 255 blocks: its chart is accepted, and runs on the two give the same answer and the same buffer.
-use Rattle.std.specs.Prelude.{◌≡◌, List, ℕ, ◌≤◌, length}
+use Rattle.std.specs.Prelude.{◌≡◌, List, ℕ, ◌≤◌, length, Ok}
 use Rattle.std.proofs.Common.{sym, ◌∙◌}
 use Rattle.std.proofs.Math.Path.{ap}
 use Rattle.systems.specs.System.{System, Reading, reading, Alike}
-use Rattle.answer_rules.specs.declared.Checked.{Checked}
-use Rattle.answer_rules.specs.declared.Checked.TheVariants.{Fine}
+use Rattle.answer_rules.specs.Refusal.{Checked}
 use Rattle.answer_rules.specs.Stages.{and_then}
 use Rattle.answer_rules.specs.Run.{run_checks, ran_by, left_by}
 use Rattle.model.specs.Sheet.{Sheet, sheet_reading, WellFormed}
@@ -18,7 +17,7 @@ use Rattle.chart.specs.Accepted.{accepted}
 
 -- A run on any system whose start reads like block 0 of an accepted chart, with the chart's actions, once its own check passed:
 -- the same answer and the same buffer, whatever the sequence and the buffer, refused ones too.
-pub same_run : {X : Type 0} (s : System X) (x : X) (c : List ℕ) (check : Checked) → Alike s (chart_system c) x 0 → check ≡ Fine → chart_check c ≡ Fine
+pub same_run : {X : Type 0} (s : System X) (x : X) (c : List ℕ) (check : Checked) → Alike s (chart_system c) x 0 → check ≡ Ok tt → chart_check c ≡ Ok tt
     → (w old : List ℕ)
     → (ran_by (and_then check (run_checks (actions_of c) w (length old))) (reading s w x) ≡ chart_ran c w (length old))
     × (left_by (and_then check (run_checks (actions_of c) w (length old))) (reading s w x) old ≡ chart_left c w old)
@@ -32,7 +31,7 @@ same_run s x c check r e h w old =
 
 module _ (s : Sheet) (W : WellFormed s) (few : length (blocks s) ≤ 255) where
   -- the chart is accepted
-  pub chart_accepted : chart_check (chart_of s) ≡ Fine
+  pub chart_accepted : chart_check (chart_of s) ≡ Ok tt
   chart_accepted = (accepted (chart_of s)).1 (chart_rules s W few)
 
   -- For every action sequence and buffer, refused ones too, the sheet's run and the chart's give the same answer and the same buffer.

@@ -1,7 +1,8 @@
 -- The run of an action sequence on a chart: its checks, its answer and what the lent buffer then holds.
-use Rattle.std.specs.Prelude.{List, ℕ, length}
-use Rattle.answer_rules.specs.declared.Checked.{Checked}
-use Rattle.answer_rules.specs.declared.Ran.{Ran}
+use Rattle.std.specs.Prelude.{List, ℕ, length, Result}
+use Rattle.answer_rules.specs.declared.Refusal.{Refusal}
+use Rattle.answer_rules.specs.declared.Run.{Run}
+use Rattle.answer_rules.specs.Refusal.{Checked}
 use Rattle.answer_rules.specs.Stages.{and_then}
 use Rattle.answer_rules.specs.Run.{run_checks, ran_by, left_by}
 use Rattle.model.specs.Chart.{actions_of, chart_reading}
@@ -12,7 +13,7 @@ unfoldable pub chart_run_check : List ℕ → List ℕ → ℕ → Checked
 chart_run_check c w room = and_then (chart_check c) (run_checks (actions_of c) w room)
 
 -- the answer
-unfoldable pub chart_ran : List ℕ → List ℕ → ℕ → Ran
+unfoldable pub chart_ran : List ℕ → List ℕ → ℕ → Result Run Refusal
 chart_ran c w room = ran_by (chart_run_check c w room) (chart_reading c w)
 
 -- what the buffer then holds

@@ -1,6 +1,6 @@
 -- A chart whose header is right: its counts are within their limits and its length is what they give.
 use Rattle.std.specs.Prelude.{◌≡◌, refl, List, ℕ, suc, ◌+◌, ◌*◌, ◌≤◌, ◌<◌, length, get_or}
-use Rattle.std.proofs.Common.{ap, ◌∙◌, arith, mul-le-mul_right}
+use Rattle.std.proofs.Common.{ap, ◌∙◌, arith, mul-le-mul, mul-le-mul_right}
 use Rattle.integers.specs.LittleEndian.{unsigned_at}
 use Rattle.model.specs.Chart.{actions_of, blocks_of, record_at, label_of, target_of}
 use Rattle.chart_bytes.specs.Header.{target_at}
@@ -12,6 +12,14 @@ pub record Shaped (c : List ℕ) : Type 0 where
   pub blocks_some : 1 ≤ blocks_of c
   pub blocks_few : blocks_of c ≤ 255
   pub length_right : length c ≡ record_at c (blocks_of c)
+
+-- the bytes are few
+pub shaped_small : (c : List ℕ) → Shaped c → length c ≤ 2557
+unfolding record_at
+shaped_small c s =
+    let a : 2 + actions_of c ≤ 10 = omega (arith, s.actions_few) in
+    let m : blocks_of c * (2 + actions_of c) ≤ 255 * 10 = mul-le-mul s.blocks_few a in
+    omega (arith, s.length_right)
 
 -- a record lies within the bytes
 pub record_fits : (c : List ℕ) → Shaped c → (i : ℕ) → i < blocks_of c → 7 + i * (2 + actions_of c) + 2 + actions_of c ≤ length c

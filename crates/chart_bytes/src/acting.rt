@@ -1,38 +1,32 @@
 // One action on a chart whose targets are blocks or 255.
-ghost use Rattle.std.specs.Prelude.{◌<◌};
-ghost use Rattle.model.specs.Chart.{actions_of, blocks_of};
+ghost use Rattle.std.specs.Prelude.{◌≡◌, ◌<◌, IfSome};
+ghost use Rattle.std.specs.Option.{ForSome};
+ghost use Rattle.systems.specs.System.{entry};
+ghost use Rattle.model.specs.Chart.{actions_of, blocks_of, chart_step, chart_system};
 ghost use Rattle.model.specs.Rounds.{TargetsRight};
-ghost use Rattle.chart_bytes.specs.Acting.{Acts};
-ghost use Rattle.chart_bytes.specs.Shape.{Shaped};
 
-use crate::fields::{label_of, target_of};
+use crate::chart::Chart;
 
-// What one action does: the block where the walk is then, what is written, and whether the action was barred.
-#[derive(Clone, Copy)]
-pub struct Acted {
-    pub block: usize,
-    pub entry: u16,
-    pub barred: bool,
-}
-
-// Takes one action from a block. A barred one stays there and writes 65,535.
-pub fn act(c: &[u8], block: usize, action: usize) -> Acted
-    requires shaped { Shaped c.now }
-    requires targets_right { TargetsRight c.now }
-    requires block_bound { (block < blocks_of c.now) × (action < actions_of c.now) }
-    ensures { Acts c.now block action result }
-{
-    let target = target_of(c, block, action);
-    if target == 255 {
-        return Acted {
-            block,
-            entry: 65535,
-            barred: true,
-        };
+impl<'a> Chart<'a> {
+    /// Where an action leads from a block: to its target, or nowhere where it is barred.
+    pub fn act(&self, block: usize, action: usize) -> Option<usize>
+        requires targets_right { TargetsRight self.now }
+        requires block_bound { (block < blocks_of self.now) × (action < actions_of self.now) }
+        ensures step { result ≡ chart_step self.now action block }
+        ensures target_there { IfSome result (λ target. target < blocks_of self.now) }
+    {
+        let target = self.target_of(block, action);
+        if target == 255 { None } else { Some(target) }
     }
-    Acted {
-        block: target,
-        entry: label_of(c, target),
-        barred: false,
+
+    /// What an action writes, by where it leads: the label there, or 65,535.
+    pub fn entry_of(&self, target: Option<usize>) -> u16
+        requires { ForSome target (λ block. block < blocks_of self.now) }
+        ensures { result ≡ entry (chart_system self.now) target }
+    {
+        match target {
+            Some(block) => self.label(block),
+            None => 65535,
+        }
     }
 }

@@ -3,5 +3,7 @@
 #![tactic(auto)]
 
 pub mod acting;
-pub mod fields;
+pub mod chart;
 pub mod header;
+
+pub use chart::Chart;

@@ -1,10 +1,9 @@
 -- A chart that obeys the chart rules, whoever made it, numbers its blocks as first named: the next unnamed number counts what has been named. The laws of that
 -- number first.
-use Rattle.std.specs.Prelude.{◌≡◌, ◌⊎◌, List}
+use Rattle.std.specs.Prelude.{◌≡◌, ◌⊎◌, List, Some}
 use Rattle.std.proofs.Math.Path.{subst}
 use Rattle.std.proofs.Common.{inl, inr, le_refl, eq-eqb, ne_eqb}
 use Rattle.std.proofs.Math.Logic.{⊎_elim}
-use Rattle.std.proofs.Math.Option.{some}
 use Prim.Native.Nat.{ℕ, zero, suc, ◌≤◌, ◌<◌}
 use Rattle.std.proofs.Math.Decide.{dec_lt, le_ind, ℕ_discrete}
 use native.Mathlib.Omega.{arith}
@@ -85,7 +84,7 @@ module _ (c : List ℕ) (R : ChartRules c) where
   name_first (suc i) h = R.named_before (suc i) (omega arith) h
 
   -- what a target names is counted from the next target on
-  target_counted : (i a k : ℕ) → i < blocks_of c → chart_step c a i ≡ some k → (a < actions_of c) × (k < next_in c i (next_unnamed c i) (suc a))
+  target_counted : (i a k : ℕ) → i < blocks_of c → chart_step c a i ≡ Some k → (a < actions_of c) × (k < next_in c i (next_unnamed c i) (suc a))
   unfolding next_in
   target_counted i a k h q =
       let (l, e) = step_target c a i k q in
@@ -106,7 +105,7 @@ module _ (c : List ℕ) (R : ChartRules c) where
         closed = chart_closed c R.blocks_few R.targets_right;
       }
     where
-      counted : (i a j b k : ℕ) → Earlier i a j b → j < blocks_of c → chart_step c a i ≡ some k → k < next_in c j (next_unnamed c j) b
+      counted : (i a j b k : ℕ) → Earlier i a j b → j < blocks_of c → chart_step c a i ≡ Some k → k < next_in c j (next_unnamed c j) b
       counted i a j b k (inl o) h q =
           let (l, g) = target_counted i a k (omega arith) q in
           omega (
@@ -119,7 +118,7 @@ module _ (c : List ℕ) (R : ChartRules c) where
           let (l, g) = target_counted i a k (omega arith) q in
           subst (λ (z : ℕ). k < next_in c z (next_unnamed c z) b) e (omega (arith, in_le c i (next_unnamed c i) (suc a) b o))
 
-      origin : (k : ℕ) → 0 < k → k < blocks_of c → (i : ℕ) × (a : ℕ) × (i < k) × (chart_step c a i ≡ some k) × (next_in c i (next_unnamed c i) a ≡ k)
+      origin : (k : ℕ) → 0 < k → k < blocks_of c → (i : ℕ) × (a : ℕ) × (i < k) × (chart_step c a i ≡ Some k) × (next_in c i (next_unnamed c i) a ≡ k)
       origin k p h =
           let (i, b, u, v) = named_of c k k p (name_first k h) in
           let (a, l, e, q) = named_in c i k (actions_of c) u v in

@@ -1,11 +1,11 @@
 -- Refusal 13, each record against the first of its label alone: two records that bar what the first bars agree with one another.
-use Rattle.std.specs.Prelude.{◌≡◌, refl, Bool, true, false, not, ◌||◌, List, ℕ, ◌≤◌, ◌<◌}
+use Rattle.std.specs.Prelude.{◌≡◌, refl, Bool, true, false, not, ◌||◌, List, ℕ, ◌≤◌, ◌<◌, Ok}
 use Rattle.std.proofs.Common.{sym, ap, subst, ◌∙◌, ⊎_elim, eq-or-lt_of_le, arith, eq-eqb}
 use Rattle.std.proofs.Math.Decide.{dec_le, ℕ_discrete}
 use Rattle.std.proofs.Math.Dec.{eqb}
 use Rattle.systems.proofs.Laws.{told, eqb_tells, least_le, least_lt, least_least}
-use Rattle.answer_rules.specs.declared.Checked.{Checked}
-use Rattle.answer_rules.specs.declared.Checked.TheVariants.{Fine}
+use Rattle.answer_rules.specs.declared.Reason.TheVariants.{Bars}
+use Rattle.answer_rules.specs.Refusal.{Checked, at}
 use Rattle.answer_rules.specs.Stages.{demand, each}
 use Rattle.answer_rules.proofs.Stages.{demand_fine, each_first, each_fine, each_all, each_agree}
 use Rattle.model.specs.Chart.{blocks_of, record_at, label_of, round_class}
@@ -17,9 +17,9 @@ use Rattle.chart_form.specs.Passed.{same_bars_tells}
 same_label_lem : (c : List ℕ) (i j : ℕ) → label_of c i ≡ label_of c j → (not (eqb (label_of c i) (label_of c j)) || same_bars c i j) ≡ same_bars c i j
 same_label_lem c i j e = ap (λ (b : Bool). not b || same_bars c i j) (eq-eqb (label_of c i) (label_of c j) e)
 
-pair_passed : (c : List ℕ) (i j : ℕ) → bar_check c j i ≡ Fine → label_of c i ≡ label_of c j → same_bars c i j ≡ true
+pair_passed : (c : List ℕ) (i j : ℕ) → bar_check c j i ≡ Ok tt → label_of c i ≡ label_of c j → same_bars c i j ≡ true
 unfolding bar_check
-pair_passed c i j e l = sym (same_label_lem c i j l) ∙ demand_fine (not (eqb (label_of c i) (label_of c j)) || same_bars c i j) 13 (record_at c j) e
+pair_passed c i j e l = sym (same_label_lem c i j l) ∙ demand_fine (not (eqb (label_of c i) (label_of c j)) || same_bars c i j) (at Bars (record_at c j)) e
 
 module _ (c : List ℕ) (j : ℕ) (h : j < blocks_of c) where
   -- the first record of a label
@@ -39,7 +39,7 @@ module _ (c : List ℕ) (j : ℕ) (h : j < blocks_of c) where
   first_first i l e = (least_least (λ i. eqb (label_of c i) (label_of c j)) (blocks_of c)).first i l ((eqb_tells (label_of c i) (label_of c j)).1 e)
 
   -- where all records before passed, one that bars what the first of its label bars agrees with each
-  agrees_with : each (λ k. each (bar_check c k) k) j ≡ Fine → same_bars c (round_class c 0 j) j ≡ true → (i : ℕ) → i < j → Fine ≡ bar_check c j i
+  agrees_with : each (λ k. each (bar_check c k) k) j ≡ Ok tt → same_bars c (round_class c 0 j) j ≡ true → (i : ℕ) → i < j → Ok tt ≡ bar_check c j i
   agrees_with e t i b = go (ℕ_discrete (label_of c i) (label_of c j))
     where
       between : round_class c 0 j < i → label_of c i ≡ label_of c j → same_bars c i j ≡ true
@@ -57,12 +57,12 @@ module _ (c : List ℕ) (j : ℕ) (h : j < blocks_of c) where
       later (yes l) d = ⊎_elim (λ z. subst (λ (k : ℕ). same_bars c k j ≡ true) z t) (λ m. between m d) (eq-or-lt_of_le l)
       later (no l) d = absurd (first_first i (omega arith) d)
 
-      go : Dec (label_of c i ≡ label_of c j) → Fine ≡ bar_check c j i
+      go : Dec (label_of c i ≡ label_of c j) → Ok tt ≡ bar_check c j i
       go (yes d) = pair_alike c j i refl (later (dec_le (round_class c 0 j) i) d)
       go (no n) = pair_apart c j i refl refl n
 
   -- so the first of its label decides
-  first_decides : each (λ k. each (bar_check c k) k) j ≡ Fine → each (bar_check c j) j ≡ bar_check c j (round_class c 0 j)
+  first_decides : each (λ k. each (bar_check c k) k) j ≡ Ok tt → each (bar_check c j) j ≡ bar_check c j (round_class c 0 j)
   first_decides e = ⊎_elim alike other (told (same_bars c (round_class c 0 j) j))
     where
       alike : same_bars c (round_class c 0 j) j ≡ true → each (bar_check c j) j ≡ bar_check c j (round_class c 0 j)
@@ -91,9 +91,9 @@ bars_first c = sym (each_agree (λ j. each (bar_check c j) j) (λ j. bar_check c
 
 -- that, as the code finds it
 pub bar_later : (c : List ℕ) (j : ℕ) {first p : ℕ} {b : Bool} {r : Checked} → j < blocks_of c → first ≡ round_class c 0 j → b ≡ same_bars c first j
-    → p ≡ record_at c j → r ≡ demand b 13 p → r ≡ bar_check c j (round_class c 0 j)
+    → p ≡ record_at c j → r ≡ demand b (at Bars p) → r ≡ bar_check c j (round_class c 0 j)
 unfolding bar_check
 bar_later c j {first} {p} {b} h e s q k =
     k
-    ∙ ap (λ (x : ℕ). demand b 13 x) q
-    ∙ ap (λ (x : Bool). demand x 13 (record_at c j)) (s ∙ ap (λ (x : ℕ). same_bars c x j) e ∙ sym (same_label_lem c (round_class c 0 j) j (first_label c j h)))
+    ∙ ap (λ (x : ℕ). demand b (at Bars x)) q
+    ∙ ap (λ (x : Bool). demand x (at Bars (record_at c j))) (s ∙ ap (λ (x : ℕ). same_bars c x j) e ∙ sym (same_label_lem c (round_class c 0 j) j (first_label c j h)))

@@ -1,11 +1,12 @@
 -- What a chart that passes the refusals 4, 12 and 13 obeys, each way.
-use Rattle.std.specs.Prelude.{◌≡◌, refl, ◌↔◌, ◌⊎◌, Bool, true, false, not, ◌||◌, List, ℕ, ◌≤◌, ◌<◌, eqb, ltb, leb}
+use Rattle.std.specs.Prelude.{◌≡◌, refl, ◌↔◌, ◌⊎◌, Bool, true, false, not, ◌||◌, List, ℕ, ◌≤◌, ◌<◌, eqb, ltb, leb, Ok}
 use Rattle.std.proofs.Common.{sym, ap, inl, inr, ⊎_elim, arith, ltb-true, leb-true, eqb-true, lt-ltb, le-leb, eq-eqb, ne_eqb}
 use Rattle.std.proofs.Math.Decide.{ℕ_discrete}
 use Rattle.systems.specs.Search.{all}
 use Rattle.systems.proofs.Laws.{true_is, is_true, all_true}
-use Rattle.answer_rules.specs.declared.Checked.{Checked}
-use Rattle.answer_rules.specs.declared.Checked.TheVariants.{Fine}
+use Rattle.answer_rules.specs.declared.Reason.{Reason}
+use Rattle.answer_rules.specs.declared.Reason.TheVariants.{Field, Numbering, Bars}
+use Rattle.answer_rules.specs.Refusal.{Checked, at}
 use Rattle.answer_rules.specs.Stages.{demand, each}
 use Rattle.answer_rules.proofs.Stages.{passed, then_fine, demand_fine, each_fine, each_all}
 use Rattle.answer_rules.proofs.Loops.{demand_yes, or_first, or_second}
@@ -19,15 +20,15 @@ or_true true b e = inl refl
 or_true false b e = inr e
 
 -- a demand passes exactly where its test does
-pub demand_pass : {t : Bool} (n p : ℕ) → t ≡ true → demand t n p ≡ Fine
-demand_pass n p e = sym (demand_yes n p e)
+pub demand_pass : {t : Bool} (n : Reason) (p : ℕ) → t ≡ true → demand t (at n p) ≡ Ok tt
+demand_pass n p e = sym (demand_yes (at n p) e)
 
 -- 4
 pub record Limited (c : List ℕ) : Type 0 where
   pub labels : (i : ℕ) → i < blocks_of c → label_of c i < 65535
   pub targets : TargetsRight c
 
-target_right : (c : List ℕ) (i a : ℕ) → (target_check c i a ≡ Fine) ↔ ((target_of c i a < blocks_of c) ⊎ (target_of c i a ≡ 255))
+target_right : (c : List ℕ) (i a : ℕ) → (target_check c i a ≡ Ok tt) ↔ ((target_of c i a < blocks_of c) ⊎ (target_of c i a ≡ 255))
 unfolding target_check
 target_right c i a = (
   λ e.
@@ -35,82 +36,82 @@ target_right c i a = (
       (λ q. inr (eqb-true (target_of c i a) 255 q))
       (λ q. inl (ltb-true (target_of c i a) (blocks_of c) q))
       (or_true (eqb (target_of c i a) 255) (ltb (target_of c i a) (blocks_of c))
-      (demand_fine (eqb (target_of c i a) 255 || ltb (target_of c i a) (blocks_of c)) 4 (target_at c i a) e)),
+      (demand_fine (eqb (target_of c i a) 255 || ltb (target_of c i a) (blocks_of c)) (at Field (target_at c i a)) e)),
   λ r.
-      demand_pass 4 (target_at c i a)
+      demand_pass Field (target_at c i a)
       (⊎_elim
       (λ q. or_second (eqb (target_of c i a) 255) (lt-ltb (target_of c i a) (blocks_of c) q))
       (λ q. or_first (ltb (target_of c i a) (blocks_of c)) (eq-eqb (target_of c i a) 255 q))
       r),
 )
 
-pub limits_right : (c : List ℕ) → (limits_check c ≡ Fine) ↔ Limited c
+pub limits_right : (c : List ℕ) → (limits_check c ≡ Ok tt) ↔ Limited c
 unfolding limits_check fields_check
 limits_right c = (
   λ e.
       record {
-        labels = λ i h. ltb-true (label_of c i) 65535 (demand_fine (ltb (label_of c i) 65535) 4 (record_at c i) (parts e i h).0);
+        labels = λ i h. ltb-true (label_of c i) 65535 (demand_fine (ltb (label_of c i) 65535) (at Field (record_at c i)) (parts e i h).0);
         targets = λ i a h b. (target_right c i a).0 (each_fine (target_check c i) (actions_of c) (parts e i h).1 a b);
       },
   λ r.
       each_all (fields_check c) (blocks_of c)
       (λ i h.
       sym
-      (passed (demand_pass 4 (record_at c i) (lt-ltb (label_of c i) 65535 (r.labels i h)))
+      (passed (demand_pass Field (record_at c i) (lt-ltb (label_of c i) 65535 (r.labels i h)))
       (sym (each_all (target_check c i) (actions_of c) (λ a b. (target_right c i a).1 (r.targets i a h b)))))),
 )
   where
-    parts : limits_check c ≡ Fine → (i : ℕ) → i < blocks_of c
-        → (demand (ltb (label_of c i) 65535) 4 (record_at c i) ≡ Fine) × (each (target_check c i) (actions_of c) ≡ Fine)
+    parts : limits_check c ≡ Ok tt → (i : ℕ) → i < blocks_of c
+        → (demand (ltb (label_of c i) 65535) (at Field (record_at c i)) ≡ Ok tt) × (each (target_check c i) (actions_of c) ≡ Ok tt)
     parts e i h =
-        then_fine (demand (ltb (label_of c i) 65535) 4 (record_at c i)) (each (target_check c i) (actions_of c)) (each_fine (fields_check c) (blocks_of c) e i h)
+        then_fine (demand (ltb (label_of c i) 65535) (at Field (record_at c i))) (each (target_check c i) (actions_of c)) (each_fine (fields_check c) (blocks_of c) e i h)
 
 -- 12
 pub record Numbered (c : List ℕ) : Type 0 where
   pub in_order : (i a : ℕ) → i < blocks_of c → a < actions_of c → (target_of c i a ≡ 255) ⊎ (target_of c i a ≤ next_in c i (next_unnamed c i) a)
   pub before : (i : ℕ) → 1 ≤ i → i < blocks_of c → i < next_unnamed c i
 
-pub numbers_right : (c : List ℕ) → (numbers_check c ≡ Fine) ↔ Numbered c
+pub numbers_right : (c : List ℕ) → (numbers_check c ≡ Ok tt) ↔ Numbered c
 unfolding numbers_check number_check record_check order_check
 numbers_right c = (λ e. record { in_order = order e; before = named e }, λ r. each_all (λ i. number_check c i (next_unnamed c i)) (blocks_of c) (λ i hi. back r i hi))
   where
     orders : ℕ → ℕ → Checked
     orders i a = order_check c i a (next_in c i (next_unnamed c i) a)
 
-    parts : numbers_check c ≡ Fine → (i : ℕ) → i < blocks_of c → (record_check c i (next_unnamed c i) ≡ Fine) × (each (orders i) (actions_of c) ≡ Fine)
+    parts : numbers_check c ≡ Ok tt → (i : ℕ) → i < blocks_of c → (record_check c i (next_unnamed c i) ≡ Ok tt) × (each (orders i) (actions_of c) ≡ Ok tt)
     parts e i hi =
         then_fine (record_check c i (next_unnamed c i)) (each (orders i) (actions_of c))
         (each_fine (λ i. number_check c i (next_unnamed c i)) (blocks_of c) e i hi)
 
-    order : numbers_check c ≡ Fine → (i a : ℕ) → i < blocks_of c → a < actions_of c
+    order : numbers_check c ≡ Ok tt → (i a : ℕ) → i < blocks_of c → a < actions_of c
         → (target_of c i a ≡ 255) ⊎ (target_of c i a ≤ next_in c i (next_unnamed c i) a)
     order e i a hi ha =
         ⊎_elim
         (λ q. inl (eqb-true (target_of c i a) 255 q))
         (λ q. inr (leb-true (target_of c i a) (next_in c i (next_unnamed c i) a) q))
         (or_true (eqb (target_of c i a) 255) (leb (target_of c i a) (next_in c i (next_unnamed c i) a))
-        (demand_fine (eqb (target_of c i a) 255 || leb (target_of c i a) (next_in c i (next_unnamed c i) a)) 12 (target_at c i a)
+        (demand_fine (eqb (target_of c i a) 255 || leb (target_of c i a) (next_in c i (next_unnamed c i) a)) (at Numbering (target_at c i a))
         (each_fine (orders i) (actions_of c) (parts e i hi).1 a ha)))
 
-    named : numbers_check c ≡ Fine → (i : ℕ) → 1 ≤ i → i < blocks_of c → i < next_unnamed c i
+    named : numbers_check c ≡ Ok tt → (i : ℕ) → 1 ≤ i → i < blocks_of c → i < next_unnamed c i
     named e i h hi =
         ⊎_elim
         (λ q. let z = eqb-true i 0 q in absurd (omega arith))
         (λ q. ltb-true i (next_unnamed c i) q)
-        (or_true (eqb i 0) (ltb i (next_unnamed c i)) (demand_fine (eqb i 0 || ltb i (next_unnamed c i)) 12 (record_at c i) (parts e i hi).0))
+        (or_true (eqb i 0) (ltb i (next_unnamed c i)) (demand_fine (eqb i 0 || ltb i (next_unnamed c i)) (at Numbering (record_at c i)) (parts e i hi).0))
 
     first : Numbered c → (i : ℕ) → i < blocks_of c → Dec (i ≡ 0) → (eqb i 0 || ltb i (next_unnamed c i)) ≡ true
     first r i hi (yes e) = or_first (ltb i (next_unnamed c i)) (eq-eqb i 0 e)
     first r i hi (no n) = or_second (eqb i 0) (lt-ltb i (next_unnamed c i) (r.before i (omega arith) hi))
 
-    back : Numbered c → (i : ℕ) → i < blocks_of c → number_check c i (next_unnamed c i) ≡ Fine
+    back : Numbered c → (i : ℕ) → i < blocks_of c → number_check c i (next_unnamed c i) ≡ Ok tt
     back r i hi =
         sym
-        (passed (demand_pass 12 (record_at c i) (first r i hi (ℕ_discrete i 0)))
+        (passed (demand_pass Numbering (record_at c i) (first r i hi (ℕ_discrete i 0)))
         (sym
         (each_all (orders i) (actions_of c)
         (λ a ha.
-        demand_pass 12 (target_at c i a)
+        demand_pass Numbering (target_at c i a)
         (⊎_elim
         (λ q. or_first (leb (target_of c i a) (next_in c i (next_unnamed c i) a)) (eq-eqb (target_of c i a) 255 q))
         (λ q. or_second (eqb (target_of c i a) 255) (le-leb (target_of c i a) (next_in c i (next_unnamed c i) a) q))
@@ -147,7 +148,7 @@ same_bars_tells c i j = (
 abbrev pub BarsAlike : List ℕ → Type 0
 BarsAlike c = (i j a : ℕ) → i < j → j < blocks_of c → a < actions_of c → label_of c i ≡ label_of c j → (target_of c i a ≡ 255) ↔ (target_of c j a ≡ 255)
 
-pub bars_right : (c : List ℕ) → (bars_check c ≡ Fine) ↔ BarsAlike c
+pub bars_right : (c : List ℕ) → (bars_check c ≡ Ok tt) ↔ BarsAlike c
 unfolding bars_check bar_check
 bars_right c = (
   λ e i j a h hj ha l.
@@ -155,11 +156,11 @@ bars_right c = (
       (λ q. let z = ap not (eq-eqb (label_of c i) (label_of c j) l) in let y : ◌≡◌ {A = ℕ} 0 1 = cc in absurd (omega arith))
       (λ q. (same_bars_tells c i j).0 q a ha)
       (or_true (not (eqb (label_of c i) (label_of c j))) (same_bars c i j)
-      (demand_fine (not (eqb (label_of c i) (label_of c j)) || same_bars c i j) 13 (record_at c j)
+      (demand_fine (not (eqb (label_of c i) (label_of c j)) || same_bars c i j) (at Bars (record_at c j))
       (each_fine (bar_check c j) j (each_fine (λ j. each (bar_check c j) j) (blocks_of c) e j hj) i h))),
   λ r.
       each_all (λ j. each (bar_check c j) j) (blocks_of c)
-      (λ j hj. each_all (bar_check c j) j (λ i h. demand_pass 13 (record_at c j) (back r i j h hj (ℕ_discrete (label_of c i) (label_of c j))))),
+      (λ j hj. each_all (bar_check c j) j (λ i h. demand_pass Bars (record_at c j) (back r i j h hj (ℕ_discrete (label_of c i) (label_of c j))))),
 )
   where
     back : BarsAlike c → (i j : ℕ) → i < j → j < blocks_of c → Dec (label_of c i ≡ label_of c j) → (not (eqb (label_of c i) (label_of c j)) || same_bars c i j) ≡ true

@@ -5,17 +5,17 @@
 ghost use Rattle.std.specs.Prelude.{◌≡◌};
 ghost use Rattle.making_rules.specs.Claims.{Demand2, Demand3, made, chart_left, list_left};
 
-use charting::{Made, make};
+use charting::{Refusal, make};
 
-// The answers of two makings.
-#[derive(Clone, Copy)]
+/// The answers of two makings.
+#[derive(Clone, Copy, Debug, PartialEq, Eq, Hash)]
 pub struct TwoMade {
-    pub first: Made,
-    pub second: Made,
+    pub first: Result<usize, Refusal>,
+    pub second: Result<usize, Refusal>,
 }
 
-// Makes the charts of two sheets, the first in the first two buffers. Of each: its chart and list are those of the minimal reachable graph, and in buffers
-// that suffice an accepted sheet is refused for more than 255 blocks alone. Of both: the chart bytes are equal just when the sheets behave alike.
+/// Makes the charts of two sheets, the first in the first two buffers. Of each: its chart and list are those of the minimal reachable graph, and in buffers
+/// that suffice an accepted sheet is refused for more than 255 blocks alone. Of both: the chart bytes are equal just when the sheets behave alike.
 pub fn make_two(
     first: &[u8],
     second: &[u8],
@@ -34,10 +34,8 @@ pub fn make_two(
     ensures second_chart_after { second_chart.new ≡ chart_left second.now second_chart.old second_list.old }
     ensures second_list_after { second_list.new ≡ list_left second.now second_chart.old second_list.old }
 {
-    let one = make(first, first_chart, first_list);
-    let two = make(second, second_chart, second_list);
     TwoMade {
-        first: one,
-        second: two,
+        first: make(first, first_chart, first_list),
+        second: make(second, second_chart, second_list),
     }
 }

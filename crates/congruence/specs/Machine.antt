@@ -1,5 +1,5 @@
 -- What the code computes, as the definitions have it.
-use Rattle.std.specs.Prelude.{◌≡◌, refl, Bool, true, false, not, T, length, replicate, set}
+use Rattle.std.specs.Prelude.{◌≡◌, refl, Bool, true, false, T, length, replicate, set, Some, None, option_map, Ok, Err}
 use Rattle.std.proofs.Math.Path.{sym, ap, subst}
 use Rattle.std.proofs.Common.{◌∙◌, mod-lt, mul-le-mul, le-div_iff_mul-le, length-set, drop-cons, ext_get_or, get_or-set_same, get_or-set_other, get_or-drop, drop-drop}
 use mathlib.Core.List.{List, [], ◌∷◌}
@@ -8,19 +8,21 @@ use native.Mathlib.Omega.{arith}
 use Rattle.std.proofs.Math.Decide.{dec_lt}
 use Rattle.std.proofs.Math.Nat.{dvd_of_mod-eq-zero, mod-eq-zero_of_dvd}
 use Rattle.std.proofs.Math.ListN.{get_or, drop, get_or-eq_default}
-use Rattle.std.proofs.lemmas.Bool.{not-true, not-false}
 use Rattle.systems.proofs.Laws.{is_true, is_false, true_is, same_test, below_next}
 use Rattle.congruence.specs.declared.Bezout.{Bezout}
-use Rattle.congruence_rules.specs.declared.Solved.{Solved}
-use Rattle.congruence_rules.specs.declared.Solved.TheVariants.{Done, None, Refused}
-use Rattle.congruence_rules.specs.Congruence.{all_below, allowed, divisor, eight, told, given, go_round, counts_left, Asked}
+use Rattle.congruence_rules.specs.Congruence.{all_below, allowed, divisor, eight, go_round, Asked}
 use Rattle.congruence_rules.specs.Euclid.{IsBezout}
 use Rattle.congruence_rules.proofs.Divisor.{divisor_has, divisor_some}
 use Rattle.congruence_rules.specs.Greedy.{least_count, remaining, greedy}
 use Rattle.congruence.specs.Tails.{tail_at, Tails}
 use Rattle.congruence_rules.specs.Theorems.{difference}
 use Rattle.congruence_rules.proofs.Theorems.{left_divided, found_divided, found_none}
-use Rattle.congruence_rules.proofs.Answered.{allowed_asked, below_each, asked_answered, asked_counts, unasked_refused, zeros_at, eight_at, eight_long}
+use Rattle.congruence_rules.proofs.Answered.{allowed_asked, below_each, asked_answered, unasked_refused, zeros_at, eight_at, eight_long}
+use Rattle.answer_rules.specs.declared.Reason.TheVariants.{GoRound}
+use Rattle.answer_rules.specs.declared.Refusal.{Refusal}
+use Rattle.answer_rules.specs.Refusal.{Checked, at}
+use Rattle.answer_rules.specs.Stages.{demand}
+use Rattle.answer_rules.proofs.Stages.{demand_fine, demand_where}
 
 -- a number that is not below m stops the test; where all were passed, all are below
 pub below_stopped : (m : ℕ) (xs : List ℕ) (i : ℕ) → i < length xs → m ≤ get_or xs i 0 → false ≡ all_below m xs
@@ -151,17 +153,15 @@ filling_ended {m} {r} {i} {left} {xs} {counts} h e F =
     at k (yes l) = F.filled k l
     at k (no l) = F.zeros k (omega arith) ∙ sym (get_or-eq_default (greedy m xs r) 0 (omega (arith, greedy_long m xs r)))
 
--- The answer and the counts of a call that is refused, of one without a solution and of one with, as the machine finds them.
-pub asked_by : {m s w : ℕ} {xs : List ℕ} {t : Bool} → t ≡ allowed m s w xs → not t ≡ false → Asked m s w xs
-asked_by {m} {s} {w} {xs} {t} e h = (allowed_asked m s w xs).0 (true_is (allowed m s w xs) (sym e ∙ not-false t h))
+-- The answer of a call that is refused, of one without a solution and of one with, as the machine finds them.
+pub asked_by : {m s w : ℕ} {xs : List ℕ} (t : Bool) (why : Refusal) {r : Checked} → t ≡ allowed m s w xs → r ≡ demand t why → r ≡ Ok tt → Asked m s w xs
+asked_by {m} {s} {w} {xs} t why e h k = (allowed_asked m s w xs).0 (true_is (allowed m s w xs) (sym e ∙ demand_fine t why (sym h ∙ k)))
 
-abbrev Gives : ℕ → ℕ → ℕ → List ℕ → List ℕ → Solved → List ℕ → Type 0
-Gives m s w xs before answer after = (answer ≡ go_round m s w xs) × (after ≡ counts_left m s w xs before)
-
-pub gives_refused : (m s w : ℕ) (xs : List ℕ) {t : Bool} (before : List ℕ) → t ≡ allowed m s w xs → not t ≡ true → Gives m s w xs before (Refused 22 0) before
-gives_refused m s w xs {t} before e h =
-    let (p, q) = unasked_refused m s w xs (λ A. subst T (sym e ∙ not-true t h) ((allowed_asked m s w xs).1 A)) in
-    (sym p, sym (q before))
+pub gives_refused : (m s w : ℕ) (xs : List ℕ) (t : Bool) {why : Refusal} {r : Checked} → t ≡ allowed m s w xs → r ≡ demand t (at GoRound 0) → r ≡ Err why
+    → Err why ≡ go_round m s w xs
+gives_refused m s w xs t e h k =
+    let (f, q) = demand_where t (at GoRound 0) (sym h ∙ k) in
+    ap Err q ∙ sym (unasked_refused m s w xs (λ A. subst T (sym e ∙ f) ((allowed_asked m s w xs).1 A))).0
 
 pub divisor_above : {m s w : ℕ} {xs : List ℕ} {g : ℕ} → Asked m s w xs → g ≡ divisor m xs → 0 < g
 divisor_above {m} {xs = xs} A k = let l = A.modulus.0 in omega (arith, k, divisor_some (omega arith) (divisor_has m xs (omega arith)))
@@ -170,17 +170,15 @@ pub left_over : (m : ℕ) (xs : List ℕ) {d g : ℕ} → g ≡ divisor m xs →
 left_over m xs {d} k z = dvd_of_mod-eq-zero (divisor m xs) (ap (λ (y : ℕ). d % y) (sym k) ∙ z)
 
 module _ {m s w : ℕ} {xs : List ℕ} (A : Asked m s w xs) {d g : ℕ} (e : d ≡ difference m s w) (k : g ≡ divisor m xs) where
-  pub gives_none : (before : List ℕ) → (d % g ≡ 0 → ⊥) → Gives m s w xs before None before
-  unfolding told given
-  gives_none before h =
+  pub gives_none : (d % g ≡ 0 → ⊥) → Ok None ≡ go_round m s w xs
+  gives_none h =
       let z : divisor m xs ∣ difference m s w → ⊥ = λ v. h (ap (λ (y : ℕ). y % g) e ∙ ap (λ (y : ℕ). difference m s w % y) k ∙ mod-eq-zero_of_dvd (divisor m xs) v) in
       let n = found_none m s w xs (omega (arith, A.modulus)) (omega (arith, A.start)) z in
-      (sym (asked_answered A ∙ ap told n), sym (asked_counts A before ∙ ap (λ o. given o before) n))
+      sym (asked_answered A ∙ ap (λ o. Ok (option_map eight o)) n)
 
-  pub gives_done : {after : List ℕ} (before : List ℕ) → d % g ≡ 0 → after ≡ eight (greedy m xs d) → Gives m s w xs before Done after
-  unfolding told given
-  gives_done before z f =
+  pub gives_done : {counts : List ℕ} → d % g ≡ 0 → counts ≡ eight (greedy m xs d) → Ok (Some counts) ≡ go_round m s w xs
+  gives_done z f =
       let v = subst (λ (y : ℕ). divisor m xs ∣ y) e (left_over m xs k z) in
       let n = found_divided m s w xs (omega (arith, A.modulus)) (omega (arith, A.start)) v in
       let c = f ∙ ap (λ (y : ℕ). eight (greedy m xs y)) e in
-      (sym (asked_answered A ∙ ap told n), c ∙ sym (asked_counts A before ∙ ap (λ o. given o before) n))
+      ap (λ (l : List ℕ). Ok (Some l)) c ∙ sym (asked_answered A ∙ ap (λ o. Ok (option_map eight o)) n)

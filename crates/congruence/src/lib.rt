@@ -4,12 +4,12 @@
 
 ghost use Rattle.std.specs.Prelude.{◌≡◌, ℕ, ◌+◌, ◌-◌, ◌%◌, ◌≤◌, ◌<◌, length, get_or};
 ghost use Rattle.std.specs.Int.{◌∣◌};
-ghost use Rattle.congruence_rules.specs.Congruence.{all_below, allowed, divisor, eight, go_round, counts_left};
+ghost use Rattle.congruence_rules.specs.Congruence.{all_below, allowed, divisor, eight, go_round};
 ghost use Rattle.congruence_rules.specs.Euclid.{IsBezout};
 ghost use Rattle.congruence_rules.specs.Greedy.{least_count, greedy};
 ghost use Rattle.congruence.specs.Tails.{Tails};
 
-pub use congruence_rules::Solved;
+use answers::{Reason, Refusal, demanded};
 
 // The greatest common divisor of two numbers, and a factor with which the second is equal to it modulo the first (Bezout's identity).
 #[derive(Clone, Copy)]
@@ -22,12 +22,10 @@ struct Bezout {
 fn are_below(modulus: u64, numbers: &[u64]) -> bool
     ensures { result ≡ all_below modulus numbers.now }
 {
-    let mut at = 0;
-    while at < numbers.len() {
-        if numbers[at] >= modulus {
+    for &number in numbers {
+        if number >= modulus {
             return false;
         }
-        at += 1;
     }
     true
 }
@@ -100,11 +98,8 @@ fn find_tails(modulus: u64, increments: &[u64]) -> [Bezout; 9]
         factor: 0,
     };
     let mut tails = [none; 9];
-    let mut at = increments.len();
-    while at > 0 {
-        let after = tails[at];
-        tails[at - 1] = euclid(after.divisor, increments[at - 1]);
-        at -= 1;
+    for at in (0..increments.len()).rev() {
+        tails[at] = euclid(tails[at + 1].divisor, increments[at]);
     }
     tails
 }
@@ -131,42 +126,32 @@ fn first_solution(modulus: u64, difference: u64, increments: &[u64], tails: [Bez
 {
     let mut counts = [0u64; 8];
     let mut left = difference;
-    let mut at = 0;
-    while at < increments.len() {
-        let increment = increments[at];
-        let after = tails[at + 1];
-        let count = least_count(after.divisor, tails[at], left);
+    for (at, &increment) in increments.iter().enumerate() {
+        let count = least_count(tails[at + 1].divisor, tails[at], left);
         counts[at] = count;
         left = minus(modulus, left, count * increment % modulus);
-        at += 1;
     }
     counts
 }
 
-// How often to use each increment to come from the start to the wanted value: of all solutions the first in dictionary order. The counts are
-// written where there is one, and left as they were where there is none.
+/// How often to use each increment to come from the start to the wanted value: of all solutions the first in dictionary order, or none where
+/// there is no solution. Past the last increment the counts are 0.
 pub fn solve(
     modulus: u64,
     start: u64,
     wanted: u64,
     increments: &[u64],
-    counts: &mut [u64; 8],
-) -> Solved
-    ensures value { result ≡ go_round modulus start wanted increments.now }
-    ensures counts_after { counts.new ≡ counts_left modulus start wanted increments.now counts.old }
+) -> Result<Option<[u64; 8]>, Refusal>
+    ensures { result ≡ go_round modulus start wanted increments.now }
 {
-    if !is_allowed(modulus, start, wanted, increments) {
-        return Solved::Refused {
-            number: 22,
-            returned: 0,
-        };
-    }
+    demanded(
+        is_allowed(modulus, start, wanted, increments),
+        Reason::GoRound.at(0),
+    )?;
     let difference = minus(modulus, wanted, start);
     let tails = find_tails(modulus, increments);
-    let all = tails[0];
-    if difference % all.divisor != 0 {
-        return Solved::None;
+    if difference % tails[0].divisor != 0 {
+        return Ok(None);
     }
-    *counts = first_solution(modulus, difference, increments, tails);
-    Solved::Done
+    Ok(Some(first_solution(modulus, difference, increments, tails)))
 }

@@ -1,7 +1,6 @@
 -- What is promised of counters that go round.
-use Rattle.std.specs.Prelude.{◌≡◌, refl, ◌↔◌, List, [], ◌∷◌, ℕ, ◌+◌, ◌*◌, ◌%◌, ◌≤◌, ◌<◌, T, length}
+use Rattle.std.specs.Prelude.{◌≡◌, refl, ◌↔◌, List, [], ◌∷◌, ℕ, ◌+◌, ◌*◌, ◌%◌, ◌≤◌, ◌<◌, T, length, Option, None, Some}
 use Rattle.std.proofs.Common.{sym, ap, subst, ◌∙◌, ⊎_elim, arith}
-use Rattle.std.proofs.Math.Option.{Option, none, some}
 use Rattle.std.specs.Int.{◌∣◌}
 use Rattle.systems.proofs.Laws.{eqb_tells}
 use Rattle.systems.specs.Words.{Before}
@@ -23,21 +22,21 @@ counts_solution m s w xs cs = (
   λ S. (record { long = S.one_each; below = S.below }, (eqb_tells ((s + total xs cs) % m) (w % m)).1 S.arrives),
 )
 
-pub first_first : (m s w : ℕ) (xs cs : List ℕ) → first_solution m s w xs ≡ some cs → IsFirst m s w xs cs
+pub first_first : (m s w : ℕ) (xs cs : List ℕ) → first_solution m s w xs ≡ Some cs → IsFirst m s w xs cs
 unfolding first_solution
 first_first m s w xs cs e = go (subst (Found Before (ListBelow m (length xs)) (leads m s w xs)) e (search_lists m (length xs) (leads m s w xs)))
   where
-    go : Found Before (ListBelow m (length xs)) (leads m s w xs) (some cs) → IsFirst m s w xs cs
+    go : Found Before (ListBelow m (length xs)) (leads m s w xs) (Some cs) → IsFirst m s w xs cs
     go (found C t f) = record {
       solution = (counts_solution m s w xs cs).0 (C, t);
       first = λ ds S. let (D, u) = (counts_solution m s w xs ds).1 S in f ds D u;
     }
 
-pub none_solves : (m s w : ℕ) (xs : List ℕ) → first_solution m s w xs ≡ none → (cs : List ℕ) → Solution m s w xs cs → ⊥
+pub none_solves : (m s w : ℕ) (xs : List ℕ) → first_solution m s w xs ≡ None → (cs : List ℕ) → Solution m s w xs cs → ⊥
 unfolding first_solution
 none_solves m s w xs e cs S = go (subst (Found Before (ListBelow m (length xs)) (leads m s w xs)) e (search_lists m (length xs) (leads m s w xs)))
   where
-    go : Found Before (ListBelow m (length xs)) (leads m s w xs) none → ⊥
+    go : Found Before (ListBelow m (length xs)) (leads m s w xs) None → ⊥
     go (nothing f) = let (C, t) = (counts_solution m s w xs cs).1 S in f cs C t
 
 -- the first of all solutions is one alone
@@ -49,19 +48,19 @@ first_only m s w xs cs ds C D =
     (ordered cs ds (C.solution.one_each ∙ sym D.solution.one_each))
 
 -- so the search finds what is first
-pub first_found : (m s w : ℕ) (xs cs : List ℕ) → IsFirst m s w xs cs → first_solution m s w xs ≡ some cs
+pub first_found : (m s w : ℕ) (xs cs : List ℕ) → IsFirst m s w xs cs → first_solution m s w xs ≡ Some cs
 first_found m s w xs cs C = go (first_solution m s w xs) refl
   where
-    go : (o : Option (List ℕ)) → first_solution m s w xs ≡ o → o ≡ some cs
-    go none e = absurd (none_solves m s w xs e cs C.solution)
-    go (some ds) e = ap some (first_only m s w xs ds cs (first_first m s w xs ds e) C)
+    go : (o : Option (List ℕ)) → first_solution m s w xs ≡ o → o ≡ Some cs
+    go None e = absurd (none_solves m s w xs e cs C.solution)
+    go (Some ds) e = ap Some (first_only m s w xs ds cs (first_first m s w xs ds e) C)
 
-pub none_found : (m s w : ℕ) (xs : List ℕ) → ((cs : List ℕ) → Solution m s w xs cs → ⊥) → first_solution m s w xs ≡ none
+pub none_found : (m s w : ℕ) (xs : List ℕ) → ((cs : List ℕ) → Solution m s w xs cs → ⊥) → first_solution m s w xs ≡ None
 none_found m s w xs h = go (first_solution m s w xs) refl
   where
-    go : (o : Option (List ℕ)) → first_solution m s w xs ≡ o → o ≡ none
-    go none e = refl
-    go (some cs) e = absurd (h cs (first_first m s w xs cs e).solution)
+    go : (o : Option (List ℕ)) → first_solution m s w xs ≡ o → o ≡ None
+    go None e = refl
+    go (Some cs) e = absurd (h cs (first_first m s w xs cs e).solution)
 
 -- Least count first: the least count of the first increment, and what is left is a multiple of the divisor of the others.
 module _ (m a r : ℕ) (xs : List ℕ) (l : 0 < m) (h : divisor m (a ∷ xs) ∣ r) where
@@ -152,20 +151,20 @@ module _ (m s w : ℕ) (xs : List ℕ) (l : 0 < m) (b : s ≤ m) where
       )
 
   -- what is found
-  pub found_divided : divisor m xs ∣ difference m s w → first_solution m s w xs ≡ some (greedy m xs (difference m s w))
+  pub found_divided : divisor m xs ∣ difference m s w → first_solution m s w xs ≡ Some (greedy m xs (difference m s w))
   found_divided h = first_found m s w xs (greedy m xs (difference m s w)) (greedy_is_first h)
 
-  pub found_none : (divisor m xs ∣ difference m s w → ⊥) → first_solution m s w xs ≡ none
+  pub found_none : (divisor m xs ∣ difference m s w → ⊥) → first_solution m s w xs ≡ None
   found_none h = none_found m s w xs (λ cs S. h (solution_divided cs S))
 
   -- A solution is found just if s and w are equal modulo the greatest common divisor, and nothing just if they differ.
-  pub some_alike : (cs : List ℕ) → first_solution m s w xs ≡ some cs → s % divisor m xs ≡ w % divisor m xs
+  pub some_alike : (cs : List ℕ) → first_solution m s w xs ≡ Some cs → s % divisor m xs ≡ w % divisor m xs
   some_alike cs e = divided_alike.0 (solution_divided cs (first_first m s w xs cs e).solution)
 
-  pub alike_some : s % divisor m xs ≡ w % divisor m xs → first_solution m s w xs ≡ some (greedy m xs (difference m s w))
+  pub alike_some : s % divisor m xs ≡ w % divisor m xs → first_solution m s w xs ≡ Some (greedy m xs (difference m s w))
   alike_some e = found_divided (divided_alike.1 e)
 
-  pub none_apart : (first_solution m s w xs ≡ none) ↔ (s % divisor m xs ≡ w % divisor m xs → ⊥)
+  pub none_apart : (first_solution m s w xs ≡ None) ↔ (s % divisor m xs ≡ w % divisor m xs → ⊥)
   none_apart = (
     λ e q. none_solves m s w xs e (greedy m xs (difference m s w)) (greedy_is_first (divided_alike.1 q)).solution,
     λ h. found_none (λ d. h (divided_alike.0 d)),

@@ -1,12 +1,12 @@
 -- Counters that go round (document 02, U13): how often to use each increment to bring a counter modulo m from a start s to a wanted value w.
 -- In the field's terms: the first solution, in dictionary order (lexicographic), of a linear congruence. Definitions only. A list of counts has
 -- one for each increment, in the order of the increments.
-use Rattle.std.specs.Prelude.{◌≡◌, Bool, cond, ◌&&◌, List, [], ◌∷◌, ◌++◌, ℕ, ◌+◌, ◌-◌, ◌*◌, ◌%◌, ◌≤◌, ◌<◌, eqb, leb, ltb, length, get_or, take, replicate}
-use Rattle.std.proofs.Math.Option.{Option, none, some}
+use Rattle.std.specs.Prelude.{◌≡◌, Bool, cond, ◌&&◌, List, [], ◌∷◌, ◌++◌, ℕ, ◌+◌, ◌-◌, ◌*◌, ◌%◌, ◌≤◌, ◌<◌, eqb, leb, ltb, length, get_or, take, replicate, Option, None, Some, option_map, Result, Ok, Err}
 use Rattle.systems.specs.Search.{all, least}
 use Rattle.systems.specs.Words.{lists_below, first_that, Before}
-use Rattle.congruence_rules.specs.declared.Solved.{Solved}
-use Rattle.congruence_rules.specs.declared.Solved.TheVariants.{Done, None, Refused}
+use Rattle.answer_rules.specs.declared.Reason.TheVariants.{GoRound}
+use Rattle.answer_rules.specs.declared.Refusal.{Refusal}
+use Rattle.answer_rules.specs.Refusal.{at}
 
 -- equal modulo m (congruent)
 abbrev pub congruent : ℕ → ℕ → ℕ → Bool
@@ -42,21 +42,23 @@ allowed m s w xs = between 2 65536 m && ltb s m && ltb w m && between 1 8 (lengt
 unfoldable pub eight : List ℕ → List ℕ
 eight cs = cs ++ replicate (8 - length cs) 0
 
--- The answer.
-unfoldable pub told : Option (List ℕ) → Solved
-told none = None
-told (some cs) = Done
+-- The answer: the eight counts of the first solution, or none, or a refusal.
+unfoldable pub go_round : ℕ → ℕ → ℕ → List ℕ → Result (Option (List ℕ)) Refusal
+go_round m s w xs = cond (allowed m s w xs) (Ok (option_map eight (first_solution m s w xs))) (Err (at GoRound 0))
 
-unfoldable pub go_round : ℕ → ℕ → ℕ → List ℕ → Solved
-go_round m s w xs = cond (allowed m s w xs) (told (first_solution m s w xs)) (Refused 22 0)
-
--- The eight counts after it, where there were others before: those are left where there is no solution, and by a refusal.
+-- Where they are stored over eight others: those are left where there is no solution, and by a refusal.
 unfoldable pub given : Option (List ℕ) → List ℕ → List ℕ
-given none before = before
-given (some cs) before = eight cs
+given None before = before
+given (Some cs) before = eight cs
 
 unfoldable pub counts_left : ℕ → ℕ → ℕ → List ℕ → List ℕ → List ℕ
 counts_left m s w xs before = cond (allowed m s w xs) (given (first_solution m s w xs) before) before
+
+-- the same by the answer
+abbrev pub counts_after : Result (Option (List ℕ)) Refusal → List ℕ → List ℕ
+counts_after (Ok (Some counts)) before = counts
+counts_after (Ok None) before = before
+counts_after (Err why) before = before
 
 -- whether d divides m and all increments (a common divisor)
 unfoldable pub divides_all : ℕ → ℕ → List ℕ → Bool

@@ -1,5 +1,5 @@
 -- Laws by which the code tells whether a sheet has no factor other than 1 and -1.
-use Rattle.std.specs.Prelude.{◌≡◌, refl, ◌↔◌, Bool, true, false, List, [], ◌∷◌, ℕ, zero, suc, ◌+◌, ◌≤◌, ◌<◌, eqb, length, get_or, ℤ, pos, negsuc}
+use Rattle.std.specs.Prelude.{◌≡◌, refl, ◌↔◌, Bool, true, false, List, [], ◌∷◌, ℕ, zero, suc, ◌+◌, ◌≤◌, ◌<◌, eqb, length, get_or, ℤ, pos, negsuc, Option, None, Some}
 use Rattle.std.proofs.Common.{sym, subst, ◌∙◌, ⊎_elim, arith, SFits, of_z, to_z, eqb-true}
 use Rattle.std.proofs.Math.Path.{ap}
 use Rattle.std.specs.Int.{w64}
@@ -10,19 +10,17 @@ use Rattle.systems.proofs.Lists.{get_d_each, length_each}
 use Rattle.systems.proofs.Laws.{below_suc}
 use Rattle.model.specs.declared.Rule.{Rule}
 use Rattle.model.specs.declared.Rule.TheVariants.{Set, Carry}
-use Rattle.model.specs.Sheet.{Barred as barred, Open as opened, Region, nowhere, region_at, Each, each_none, each_more}
+use Rattle.model.specs.Sheet.{Barred, Open, Region, nowhere, region_at, Each, each_none, each_more}
 use Rattle.model.proofs.Classes.{each_at}
 use Rattle.depth_rules.specs.Composition.{great, great_factor}
 use Rattle.depth_rules.specs.DepthBound.{UnitMove, unit_barred, unit_open}
 use Rattle.sheet_bytes.specs.declared.Shape.{Shape}
-use Rattle.sheet_bytes.specs.declared.Move.{Move}
-use Rattle.sheet_bytes.specs.declared.Move.TheVariants.{Barred, Open}
 use Rattle.sheet_bytes.specs.declared.Rules.{Rules}
 use Rattle.sheet_bytes.specs.declared.RegionMove.{RegionMove}
 use Rattle.sheet_rules.specs.Layout.{counters_of, actions_of, regions_of, kind_of, move_part}
 use Rattle.sheet_rules.specs.Decode as Decode
 use Rattle.sheet_rules.specs.Decode.{decode, listed, rule_at, move_of}
-use Rattle.sheet_bytes.specs.Three.{Read, firsts, padded, rules_meant, move_meant, move_of_kind, rules_three, kind_named, move_three}
+use Rattle.sheet_bytes.specs.Three.{Read, firsts, padded, rules_meant, move_meant, rules_three, open_three, move_three}
 use Rattle.sheet_rules.proofs.Listed.{each_listed}
 use Rattle.depth_bound.specs.Depth.{Tells, UnitRegion, UnitFactors}
 
@@ -97,20 +95,19 @@ module _ (q : Rules) where
       record { yes = λ g. w.1 (A.yes e, (B.yes f, T.yes g)); no = λ g h. T.no g (w.0 h).1.1 }
 
 -- a move
-units_open : {target : ℕ} {rules : List Rule} → Each UnitRule rules ↔ UnitMove (opened target rules)
+units_open : {target : ℕ} {rules : List Rule} → Each UnitRule rules ↔ UnitMove (Open target rules)
 units_open = (unit_open, back)
   where
-    back : {target : ℕ} {rules : List Rule} → UnitMove (opened target rules) → Each UnitRule rules
+    back : {target : ℕ} {rules : List Rule} → UnitMove (Open target rules) → Each UnitRule rules
     back (unit_open e) = e
 
-pub barred_tells : (m : RegionMove) → m.kind ≡ Barred → Tells (UnitMove (move_meant 3 m)) true
-unfolding move_of_kind
-barred_tells m e = tells_yes (subst (λ (k : Move). UnitMove (move_of_kind k m.target (rules_meant 3 m.rules))) (sym e) unit_barred)
+pub barred_tells : {m : Option RegionMove} → m ≡ None → Tells (UnitMove (move_meant 3 m)) true
+unfolding move_meant
+barred_tells e = subst (λ (m : Option RegionMove). Tells (UnitMove (move_meant 3 m)) true) (sym e) (tells_yes unit_barred)
 
-pub open_tells : (m : RegionMove) {t : Bool} → m.kind ≡ Open → Tells (Each UnitRule (rules_meant 3 m.rules)) t → Tells (UnitMove (move_meant 3 m)) t
-unfolding move_of_kind
-open_tells m {t} e T =
-    subst (λ (k : Move). Tells (UnitMove (move_of_kind k m.target (rules_meant 3 m.rules))) t) (sym e) (tells_as units_open T)
+pub open_tells : {m : Option RegionMove} {q : RegionMove} {t : Bool} → m ≡ Some q → Tells (Each UnitRule (rules_meant 3 q.rules)) t → Tells (UnitMove (move_meant 3 m)) t
+unfolding move_meant
+open_tells {t = t} e T = subst (λ (m : Option RegionMove). Tells (UnitMove (move_meant 3 m)) t) (sym e) (tells_as units_open T)
 
 -- the rules of counters that the sheet lacks have no factor
 padded_units : (f : ℕ → Rule) (n : ℕ) → n ≤ 3 → Each UnitRule (rules_meant 3 (rules_three f n)) ↔ Each UnitRule (listed f n)
@@ -128,11 +125,11 @@ padded_units f (suc (suc (suc zero))) h = (λ e. e, λ e. e)
 padded_units f (suc (suc (suc (suc n)))) h = absurd (omega arith)
 
 move_units : (n : ℕ) (p : List ℕ) → n ≤ 3 → UnitMove (move_meant 3 (move_three n p)) ↔ UnitMove (move_of n p)
-unfolding move_of_kind move_three move_of kind_named
+unfolding move_meant move_three move_of
 move_units n p h = go (eqb (kind_of p) 0)
   where
-    go : (b : Bool) → UnitMove (move_of_kind (elim b [ true ↦ Barred | false ↦ Open ]) (get_or p 1 0) (rules_meant 3 (rules_three (rule_at p) n)))
-        ↔ UnitMove (elim b [ true ↦ barred | false ↦ opened (get_or p 1 0) (listed (rule_at p) n) ])
+    go : (b : Bool) → UnitMove (move_meant 3 (elim b [ true ↦ None | false ↦ Some (open_three n p) ]))
+        ↔ UnitMove (elim b [ true ↦ Barred | false ↦ Open (get_or p 1 0) (listed (rule_at p) n) ])
     go true = (λ u. u, λ u. u)
     go false =
         let w = padded_units (rule_at p) n h in
@@ -140,41 +137,41 @@ move_units n p h = go (eqb (kind_of p) 0)
 
 -- the moves of region i, and the regions
 module _ {s : List ℕ} {shape : Shape} (R : Read s shape) where
-  pub region_is : (i : ℕ) → i < shape.regions → region_at (decode s) i ≡ Decode.region_at s i
+  pub region_is : (i : ℕ) → i < regions_of s → region_at (decode s) i ≡ Decode.region_at s i
   unfolding decode
-  region_is i h = get_d_each (Decode.region_at s) (regions_of s) nowhere i (omega (arith, R.regions_are))
+  region_is i h = get_d_each (Decode.region_at s) (regions_of s) nowhere i h
 
   pub regions_count : length (decode s).regions ≡ shape.regions
   unfolding decode
   regions_count = omega (arith, length_each (Decode.region_at s) (regions_of s), R.regions_are)
 
-  moves_are : (i : ℕ) → i < shape.regions → (region_at (decode s) i).moves ≡ listed (Decode.move_at s i) (actions_of s)
+  moves_are : (i : ℕ) → i < regions_of s → (region_at (decode s) i).moves ≡ listed (Decode.move_at s i) (actions_of s)
   unfolding Decode.region_at
   moves_are i h = ap (λ (r : Region). r.moves) (region_is i h)
 
   -- what the code tells of the move that it reads
-  pub move_tells : (i a : ℕ) {m : RegionMove} {t : Bool} → m ≡ move_three (counters_of s) (move_part s i a) → Tells (UnitMove (move_meant 3 m)) t
+  pub move_tells : (i a : ℕ) {m : Option RegionMove} {t : Bool} → m ≡ move_three (counters_of s) (move_part s i a) → Tells (UnitMove (move_meant 3 m)) t
       → Tells (UnitMove (Decode.move_at s i a)) t
   unfolding Decode.move_at
   move_tells i a {m} {t} e T =
-      tells_as (move_units (counters_of s) (move_part s i a) R.shaped.counters_few) (subst (λ (k : RegionMove). Tells (UnitMove (move_meant 3 k)) t) e T)
+      tells_as (move_units (counters_of s) (move_part s i a) R.shaped.counters_few) (subst (λ (k : Option RegionMove). Tells (UnitMove (move_meant 3 k)) t) e T)
 
-  pub region_not : (i a : ℕ) {t : Bool} → i < shape.regions → a < shape.actions → Tells (UnitMove (Decode.move_at s i a)) t → t ≡ false
+  pub region_not : (i a : ℕ) {t : Bool} → i < regions_of s → a < shape.actions → Tells (UnitMove (Decode.move_at s i a)) t → t ≡ false
       → Tells (UnitRegion (decode s) i) false
   region_not i a h k T e =
       let l : a < actions_of s = omega (arith, R.actions_are) in
       tells_no
       (λ u.
       T.no e
-      (subst UnitMove (get_d_each (Decode.move_at s i) (actions_of s) barred a l)
-      (each_at (subst (Each UnitMove) (moves_are i h) u) a barred (omega (arith, length_each (Decode.move_at s i) (actions_of s))))))
+      (subst UnitMove (get_d_each (Decode.move_at s i) (actions_of s) Barred a l)
+      (each_at (subst (Each UnitMove) (moves_are i h) u) a Barred (omega (arith, length_each (Decode.move_at s i) (actions_of s))))))
 
-  pub region_unit : (i n : ℕ) → i < shape.regions → shape.actions ≤ n → ((a : ℕ) → a < n → UnitMove (Decode.move_at s i a)) → Tells (UnitRegion (decode s) i) true
+  pub region_unit : (i n : ℕ) → i < regions_of s → shape.actions ≤ n → ((a : ℕ) → a < n → UnitMove (Decode.move_at s i a)) → Tells (UnitRegion (decode s) i) true
   region_unit i n h k u =
       tells_yes (subst (Each UnitMove) (sym (moves_are i h)) (each_listed (Decode.move_at s i) (actions_of s) (λ a l. u a (omega (arith, R.actions_are)))))
 
-  pub factors_not : (i : ℕ) {t : Bool} → i < shape.regions → Tells (UnitRegion (decode s) i) t → t ≡ false → Tells (UnitFactors (decode s)) false
-  factors_not i h T e = tells_no (λ u. T.no e (u i (omega (arith, regions_count))))
+  pub factors_not : (i : ℕ) {t : Bool} → i < regions_of s → Tells (UnitRegion (decode s) i) t → t ≡ false → Tells (UnitFactors (decode s)) false
+  factors_not i h T e = tells_no (λ u. T.no e (u i (omega (arith, regions_count, R.regions_are))))
 
   pub factors_unit : (n : ℕ) → shape.regions ≤ n → ((i : ℕ) → i < n → UnitRegion (decode s) i) → Tells (UnitFactors (decode s)) true
   factors_unit n h u = tells_yes (λ i l. u i (omega (arith, regions_count)))

@@ -15,7 +15,7 @@ use Rattle.depth_rules.specs.DepthBound.{Doublings, unit_factors, narrow_ranges,
 use Rattle.sheet_bytes.specs.declared.Shape.{Shape}
 use Rattle.sheet_bytes.specs.declared.Ranges.{Ranges}
 use Rattle.sheet_bytes.specs.declared.RegionBox.{RegionBox}
-use Rattle.sheet_rules.specs.Layout.{counters_of}
+use Rattle.sheet_rules.specs.Layout.{counters_of, regions_of}
 use Rattle.sheet_rules.specs.Decode as Decode
 use Rattle.sheet_rules.specs.Decode.{decode, listed, range_at}
 use Rattle.sheet_bytes.specs.Three.{Read, firsts, padded, zero_range, box_three, firsts_padded}
@@ -59,19 +59,19 @@ narrow_wider : (s : Sheet) {w w' : ℕ} (i : ℕ) → w ≤ w' → NarrowRegion 
 narrow_wider s i h e = each_map (λ r k. omega arith) e
 
 module _ {s : List ℕ} {shape : Shape} (R : Read s shape) where
-  ranges_are : (i : ℕ) → i < shape.regions → (region_at (decode s) i).box.ranges ≡ listed (range_at s i) (counters_of s)
+  ranges_are : (i : ℕ) → i < regions_of s → (region_at (decode s) i).box.ranges ≡ listed (range_at s i) (counters_of s)
   unfolding Decode.region_at Decode.box_at
   ranges_are i h = ap (λ (r : Region). r.box.ranges) (region_is R i h)
 
   -- the box that the code reads is within bounds
-  pub box_fits : WellFormed (decode s) → (i : ℕ) → i < shape.regions → {b : RegionBox} → b ≡ box_three s i → RangesWithin 1000000 b.ranges
+  pub box_fits : WellFormed (decode s) → (i : ℕ) → i < regions_of s → {b : RegionBox} → b ≡ box_three s i → RangesWithin 1000000 b.ranges
   box_fits W i h e =
-      let F = subst (Each RangeFits) (ranges_are i h) (each_at W.regions_fit i nowhere (omega (arith, regions_count R))).ranges_fit in
+      let F = subst (Each RangeFits) (ranges_are i h) (each_at W.regions_fit i nowhere (omega (arith, regions_count R, R.regions_are))).ranges_fit in
       subst (λ (b : RegionBox). RangesWithin 1000000 b.ranges) (sym e)
       (box_within s i (λ v k. let f = each_of (range_at s i) (counters_of s) F v k in record { low_within = f.low_fits; high_within = f.high_fits }))
 
   -- the region whose box made the width wider
-  widened_narrow : (w i : ℕ) → i < shape.regions → NarrowRegion (decode s) (widened w (box_three s i).ranges) i
+  widened_narrow : (w i : ℕ) → i < regions_of s → NarrowRegion (decode s) (widened w (box_three s i).ranges) i
   unfolding box_three widened
   widened_narrow w i h =
       subst (Each (λ r. size r ≤ widened w (box_three s i).ranges))
@@ -80,7 +80,7 @@ module _ {s : List ℕ} {shape : Shape} (R : Read s shape) where
       (padded zero_range (range_at s i) (counters_of s) 2) (counters_of s) R.shaped.counters_few (omega arith) (omega arith) (omega arith))
 
   -- the regions below i + 1 are no wider than the width made wider by region i
-  pub narrow_more : (w i : ℕ) {b : RegionBox} {w' : ℕ} → i < shape.regions → b ≡ box_three s i → w' ≡ widened w b.ranges
+  pub narrow_more : (w i : ℕ) {b : RegionBox} {w' : ℕ} → i < regions_of s → b ≡ box_three s i → w' ≡ widened w b.ranges
       → ((k : ℕ) → k < i → NarrowRegion (decode s) w k) → (k : ℕ) → k < i + 1 → NarrowRegion (decode s) w' k
   unfolding widened
   narrow_more w i {b} {w'} h e f N =

@@ -3,13 +3,13 @@ ghost use Rattle.std.specs.Prelude.{◌≡◌, ◌<◌};
 ghost use Rattle.model.specs.Sheet.{Each};
 ghost use Rattle.depth_rules.specs.Composition.{great};
 ghost use Rattle.depth_rules.specs.DepthBound.{UnitMove};
+ghost use Rattle.sheet_rules.specs.Layout.{regions_of};
 ghost use Rattle.sheet_rules.specs.Decode.{decode};
-ghost use Rattle.sheet_bytes.specs.Three.{Read, rules_meant, move_meant};
+ghost use Rattle.sheet_bytes.specs.Three.{rules_meant, move_meant};
 ghost use Rattle.depth_bound.specs.Depth.{Tells, UnitRegion, UnitFactors};
 
 use model::Rule;
-use sheet_bytes::fields::move_at;
-use sheet_bytes::{Move, RegionMove, Rules, Shape};
+use sheet_bytes::{RegionMove, Rules, Sheet};
 
 // Whether a rule has no factor other than 1 and -1.
 fn unit_rule(rule: Rule) -> bool
@@ -21,7 +21,7 @@ fn unit_rule(rule: Rule) -> bool
             source: _,
             factor,
             offset: _,
-        } => if factor == 1 { true } else { factor == -1 },
+        } => factor == 1 || factor == -1,
     }
 }
 
@@ -29,39 +29,26 @@ fn unit_rule(rule: Rule) -> bool
 fn unit_rules(rules: Rules) -> bool
     ensures { Tells (Each (λ r. great r ≡ 0) (rules_meant 3 rules)) result }
 {
-    let first = rules.first;
-    let second = rules.second;
-    let third = rules.third;
-    if !unit_rule(first) {
-        return false;
-    }
-    if !unit_rule(second) {
-        return false;
-    }
-    unit_rule(third)
+    unit_rule(rules.first) && unit_rule(rules.second) && unit_rule(rules.third)
 }
 
-// The same for a move.
-fn unit_move(m: RegionMove) -> bool
+// The same for a move. One that is barred has no rules.
+fn unit_move(m: Option<RegionMove>) -> bool
     ensures { Tells (UnitMove (move_meant 3 m)) result }
 {
-    let kind = m.kind;
-    let Move::Open = kind else {
-        return true;
-    };
-    let rules = m.rules;
-    unit_rules(rules)
+    match m {
+        None => true,
+        Some(m) => unit_rules(m.rules),
+    }
 }
 
 // The same for the moves of region i.
-fn unit_region(s: &[u8], shape: Shape, i: usize) -> bool
-    requires read { Read s.now shape }
-    requires i_lt_regions { i < shape.regions }
+fn unit_region(s: &Sheet<'_>, i: usize) -> bool
+    requires { i < regions_of s.now }
     ensures { Tells (UnitRegion (decode s.now) i) result }
 {
-    for a in 0..shape.actions {
-        let m = move_at(s, shape, i, a);
-        if !unit_move(m) {
+    for a in 0..s.shape().actions {
+        if !unit_move(s.move_at(i, a)) {
             return false;
         }
     }
@@ -69,12 +56,11 @@ fn unit_region(s: &[u8], shape: Shape, i: usize) -> bool
 }
 
 // The same for the whole sheet.
-pub(crate) fn unit_factors(s: &[u8], shape: Shape) -> bool
-    requires { Read s.now shape }
+pub(crate) fn unit_factors(s: &Sheet<'_>) -> bool
     ensures { Tells (UnitFactors (decode s.now)) result }
 {
-    for i in 0..shape.regions {
-        if !unit_region(s, shape, i) {
+    for i in 0..s.shape().regions {
+        if !unit_region(s, i) {
             return false;
         }
     }

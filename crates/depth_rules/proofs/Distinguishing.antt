@@ -1,10 +1,9 @@
 -- Two configurations that run side by side, and what it is for no sequence of at most L actions to tell them apart: a distinguishing sequence is one along
 -- which both run through the same regions and then are in different ones.
-use Rattle.std.specs.Prelude.{◌≡◌, get_or, drop}
+use Rattle.std.specs.Prelude.{◌≡◌, get_or, drop, Option, Some, None}
 use Rattle.std.proofs.Math.Path.{refl, ap}
 use Rattle.std.proofs.Common.{sym, subst₂, ◌∙◌, arith, not-suc-le-zero, le_of_suc-le-suc, length-append}
 use mathlib.Core.List.{List, [], ◌∷◌, ◌++◌}
-use Rattle.std.proofs.Math.Option.{Option, some, none}
 use Prim.Native.Nat.{ℕ, zero, suc, ◌+◌, ◌≤◌}
 use Rattle.std.proofs.Math.ListN.{length}
 use Rattle.systems.specs.System.{Alike, Reached, by_step}
@@ -17,20 +16,20 @@ use Rattle.depth_rules.specs.Composition.{updated_by}
 use Rattle.depth_rules.specs.Distinguishing.{Beside, beside_here, beside_there, Untold, left_at, right_at, Part}
 
 -- where two steps are open and related, so are the configurations that they lead to
-both_at : {X Y : Type 0} {R : X → Y → Type 0} {o : Option X} {u : Option Y} {x : X} {y : Y} → o ≡ some x → u ≡ some y → Both R o u → R x y
+both_at : {X Y : Type 0} {R : X → Y → Type 0} {o : Option X} {u : Option Y} {x : X} {y : Y} → o ≡ Some x → u ≡ Some y → Both R o u → R x y
 both_at {X} {Y} {R} p q b = opened (subst₂ (Both R) p q b)
   where
-    opened : {x' : X} {y' : Y} → Both R (some x') (some y') → R x' y'
+    opened : {x' : X} {y' : Y} → Both R (Some x') (Some y') → R x' y'
     opened (both_open r) = r
 
 module _ (s : Sheet) where
   -- what an action does by its move
   step_open : (a : ℕ) (x : Configuration) {target : ℕ} {rules : List Rule} → get_or (region_of s x).moves a Barred ≡ Open target rules
-      → step s a x ≡ some (landing target rules x)
+      → step s a x ≡ Some (landing target rules x)
   unfolding step moved
   step_open a x o = ap (λ (m : Move). moved m x) o
 
-  step_barred : (a : ℕ) (x : Configuration) → get_or (region_of s x).moves a Barred ≡ Barred → step s a x ≡ none
+  step_barred : (a : ℕ) (x : Configuration) → get_or (region_of s x).moves a Barred ≡ Barred → step s a x ≡ None
   unfolding step moved
   step_barred a x o = ap (λ (m : Move). moved m x) o
 

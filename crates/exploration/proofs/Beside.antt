@@ -1,7 +1,6 @@
 -- Two systems on numbers side by side, as one system: the numbers of the second stand behind those of the first. So the Moore bound speaks of two systems too.
-use Rattle.std.specs.Prelude.{ℕ, zero, suc, ◌+◌, ◌-◌, ◌≤◌, ◌<◌, ◌≡◌, refl, ◌↔◌, Bool, true, false, ◌&&◌, T, eqb}
+use Rattle.std.specs.Prelude.{ℕ, zero, suc, ◌+◌, ◌-◌, ◌≤◌, ◌<◌, ◌≡◌, refl, ◌↔◌, Bool, true, false, ◌&&◌, T, eqb, Option, Some, None, option_map}
 use Rattle.std.proofs.Common.{arith, sym, ap, subst, ◌∙◌, lt-ltb, le-ltb}
-use Rattle.std.proofs.Math.Option.{Option, some, none, map}
 use Rattle.std.proofs.Math.Decide.{dec_lt}
 use Rattle.systems.specs.Search.{all}
 use Rattle.systems.proofs.Laws.{both, all_true, eqb_tells}
@@ -13,10 +12,10 @@ use Rattle.exploration.specs.Beside.{side}
 
 -- two steps are both barred, or lead to numbers that agree
 unfoldable both_agree : (ℕ → ℕ → Bool) → Option ℕ → Option ℕ → Bool
-both_agree e none none = true
-both_agree e none (some y) = false
-both_agree e (some x) none = false
-both_agree e (some x) (some y) = e x y
+both_agree e None None = true
+both_agree e None (Some y) = false
+both_agree e (Some x) None = false
+both_agree e (Some x) (Some y) = e x y
 
 -- a test of equivalence to a depth, by a system's actions below a bound
 unfoldable agree_to : System ℕ → ℕ → ℕ → ℕ → ℕ → Bool
@@ -25,13 +24,13 @@ agree_to s actions (suc k) i j = eqb (s.label i) (s.label j) && all (λ a. both_
 
 agree_both : (e : ℕ → ℕ → Bool) (R : ℕ → ℕ → Type 0) → ((i j : ℕ) → T (e i j) ↔ R i j) → (o u : Option ℕ) → T (both_agree e o u) ↔ Both R o u
 unfolding both_agree
-agree_both e R t none none = (λ _. both_barred, λ _. tt)
-agree_both e R t none (some y) = (λ q. absurd q, λ b. let (x, p, r) = both_left (some y) b refl in let z : ◌≡◌ {A = ℕ} 0 1 = cc in absurd (omega arith))
-agree_both e R t (some x) none = (λ q. absurd q, λ b. let (y, p, r) = both_right (some x) b refl in let z : ◌≡◌ {A = ℕ} 0 1 = cc in absurd (omega arith))
-agree_both e R t (some x) (some y) =
-    (λ q. both_open ((t x y).0 q), λ b. let (y', p, r) = both_right (some x) b refl in let z : y ≡ y' = cc in (t x y).1 (subst (R x) (sym z) r))
+agree_both e R t None None = (λ _. both_barred, λ _. tt)
+agree_both e R t None (Some y) = (λ q. absurd q, λ b. let (x, p, r) = both_left (Some y) b refl in let z : ◌≡◌ {A = ℕ} 0 1 = cc in absurd (omega arith))
+agree_both e R t (Some x) None = (λ q. absurd q, λ b. let (y, p, r) = both_right (Some x) b refl in let z : ◌≡◌ {A = ℕ} 0 1 = cc in absurd (omega arith))
+agree_both e R t (Some x) (Some y) =
+    (λ q. both_open ((t x y).0 q), λ b. let (y', p, r) = both_right (Some x) b refl in let z : y ≡ y' = cc in (t x y).1 (subst (R x) (sym z) r))
 
-agree_tells : (s : System ℕ) (actions : ℕ) → ((a : ℕ) → actions ≤ a → (i : ℕ) → s.step a i ≡ none) → (k i j : ℕ) → T (agree_to s actions k i j) ↔ AlikeTo k s s i j
+agree_tells : (s : System ℕ) (actions : ℕ) → ((a : ℕ) → actions ≤ a → (i : ℕ) → s.step a i ≡ None) → (k i j : ℕ) → T (agree_to s actions k i j) ↔ AlikeTo k s s i j
 unfolding agree_to
 agree_tells s actions bars zero i j = (
   λ t. (alike_to_zero s s i j).1 ((eqb_tells (s.label i) (s.label j)).0 t),
@@ -62,14 +61,14 @@ side_right n f g j = rw (le-ltb (n + j) n (omega arith), side) (ap g (omega arit
 
 -- an action of the second system, whose numbers stand behind n
 abbrev shifted : ℕ → System ℕ → ℕ → ℕ → Option ℕ
-shifted n t a j = map (λ k. n + k) (t.step a j)
+shifted n t a j = option_map (λ k. n + k) (t.step a j)
 
 -- the system of the two: the numbers below n are those of the first, and n + j is number j of the second
 unfoldable beside : ℕ → System ℕ → System ℕ → System ℕ
 beside n s t = record { label = side n s.label t.label; step = λ a. side n (s.step a) (shifted n t a) }
 
-module _ (n m actions : ℕ) (s t : System ℕ) (closed : (a i j : ℕ) → i < n → s.step a i ≡ some j → j < n) (closed' : (a i j : ℕ) → i < m → t.step a i ≡ some j → j < m)
-    (bars : (a : ℕ) → actions ≤ a → (i : ℕ) → s.step a i ≡ none) (bars' : (a : ℕ) → actions ≤ a → (i : ℕ) → t.step a i ≡ none) where
+module _ (n m actions : ℕ) (s t : System ℕ) (closed : (a i j : ℕ) → i < n → s.step a i ≡ Some j → j < n) (closed' : (a i j : ℕ) → i < m → t.step a i ≡ Some j → j < m)
+    (bars : (a : ℕ) → actions ≤ a → (i : ℕ) → s.step a i ≡ None) (bars' : (a : ℕ) → actions ≤ a → (i : ℕ) → t.step a i ≡ None) where
   left_label : (i : ℕ) → i < n → (beside n s t).label i ≡ s.label i
   unfolding beside
   left_label i h = side_left n s.label t.label i h
@@ -94,10 +93,10 @@ module _ (n m actions : ℕ) (s t : System ℕ) (closed : (a i j : ℕ) → i < 
       i i (h, refl)
     where
       next : (x y : ℕ) → (x < n) × (x ≡ y) → (a : ℕ) (o : Option ℕ) → s.step a x ≡ o → Both (λ x y. (x < n) × (x ≡ y)) (s.step a x) ((beside n s t).step a y)
-      next x y r a none e =
+      next x y r a None e =
           let f = left_step a y (omega (arith, r.0, r.1)) ∙ ap (s.step a) (sym r.1) ∙ e in
           rw (e, f) both_barred
-      next x y r a (some z) e =
+      next x y r a (Some z) e =
           let f = left_step a y (omega (arith, r.0, r.1)) ∙ ap (s.step a) (sym r.1) ∙ e in
           rw (e, f) (both_open (closed a x z r.0 e, refl))
 
@@ -107,28 +106,28 @@ module _ (n m actions : ℕ) (s t : System ℕ) (closed : (a i j : ℕ) → i < 
       (record { label = λ x y r. sym (right_label x) ∙ ap (beside n s t).label r; next = λ x y r a. next x y r a (t.step a x) refl }) j (n + j) refl
     where
       next : (x y : ℕ) → n + x ≡ y → (a : ℕ) (o : Option ℕ) → t.step a x ≡ o → Both (λ x y. n + x ≡ y) (t.step a x) ((beside n s t).step a y)
-      next x y r a none e =
-          let f = ap ((beside n s t).step a) (sym r) ∙ right_step a x ∙ ap (map (λ k. n + k)) e in
+      next x y r a None e =
+          let f = ap ((beside n s t).step a) (sym r) ∙ right_step a x ∙ ap (option_map (λ k. n + k)) e in
           rw (e, f) both_barred
-      next x y r a (some z) e =
-          let f = ap ((beside n s t).step a) (sym r) ∙ right_step a x ∙ ap (map (λ k. n + k)) e in
+      next x y r a (Some z) e =
+          let f = ap ((beside n s t).step a) (sym r) ∙ right_step a x ∙ ap (option_map (λ k. n + k)) e in
           rw (e, f) (both_open refl)
 
-  both_bar : (a : ℕ) → actions ≤ a → (z : ℕ) → (beside n s t).step a z ≡ none
+  both_bar : (a : ℕ) → actions ≤ a → (z : ℕ) → (beside n s t).step a z ≡ None
   both_bar a h z = go (dec_lt z n)
     where
-      go : Dec (z < n) → (beside n s t).step a z ≡ none
+      go : Dec (z < n) → (beside n s t).step a z ≡ None
       go (yes l) = left_step a z l ∙ bars a h z
       go (no l) =
           let k : n + (z - n) ≡ z = omega arith in
-          ap ((beside n s t).step a) (sym k) ∙ right_step a (z - n) ∙ ap (map (λ k. n + k)) (bars' a h (z - n))
+          ap ((beside n s t).step a) (sym k) ∙ right_step a (z - n) ∙ ap (option_map (λ k. n + k)) (bars' a h (z - n))
 
-  both_closed : (a z y : ℕ) → z < n + m → (beside n s t).step a z ≡ some y → y < n + m
+  both_closed : (a z y : ℕ) → z < n + m → (beside n s t).step a z ≡ Some y → y < n + m
   both_closed a z y h e = go (dec_lt z n)
     where
-      behind : (o : Option ℕ) → ((k : ℕ) → o ≡ some k → k < m) → map (λ k. n + k) o ≡ some y → y < n + m
-      behind none f q = let x : ◌≡◌ {A = ℕ} 0 1 = cc in absurd (omega arith)
-      behind (some k) f q = let x : n + k ≡ y = cc in omega (arith, f k refl)
+      behind : (o : Option ℕ) → ((k : ℕ) → o ≡ Some k → k < m) → option_map (λ k. n + k) o ≡ Some y → y < n + m
+      behind None f q = let x : ◌≡◌ {A = ℕ} 0 1 = cc in absurd (omega arith)
+      behind (Some k) f q = let x : n + k ≡ y = cc in omega (arith, f k refl)
 
       go : Dec (z < n) → y < n + m
       go (yes l) = omega (arith, closed a z y l (sym (left_step a z l) ∙ e))

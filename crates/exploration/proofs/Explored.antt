@@ -2,11 +2,10 @@
 use Prim.Native.Nat.{ℕ, zero, suc, ◌≤◌, ◌<◌}
 use Rattle.std.proofs.Math.Decide.{dec_lt, le_ind}
 use Rattle.std.proofs.Common.{arith, sym, subst₂, ◌∙◌, length-append}
-use Rattle.std.specs.Prelude.{◌≡◌, ◌↔◌, ◌⊎◌, Bool, false}
+use Rattle.std.specs.Prelude.{◌≡◌, ◌↔◌, ◌⊎◌, Bool, false, Option, Some, None, option_map}
 use Rattle.std.proofs.Math.Path.{refl, ap, subst}
 use Rattle.std.proofs.Math.Logic.{⊎_elim}
 use mathlib.Core.List.{List, [], ◌∷◌, ◌++◌}
-use Rattle.std.proofs.Math.Option.{Option, some, none, map}
 use Rattle.std.proofs.Math.Dec.{T}
 use Rattle.std.proofs.Math.ListN.{length, get_or, get_or-append}
 use Rattle.std.proofs.Math.Seq.{get_or-append_seam}
@@ -20,7 +19,7 @@ use Rattle.exploration.proofs.Places.{at_in, at_out, prefix_refl, prefix_trans, 
 use Rattle.exploration.proofs.Places.{prefix_known, prefix_place, added_old, added_new, added_prefix, added_known, added_place}
 use Rattle.exploration.specs.Explored.{Explorable, Representatives, seen, grown, Named, Many}
 
-none_some : {X : Type 0} {A : Type 0} {o : Option X} {y : X} → o ≡ none → o ≡ some y → A
+none_some : {X : Type 0} {A : Type 0} {o : Option X} {y : X} → o ≡ None → o ≡ Some y → A
 none_some p q = let z : ◌≡◌ {A = ℕ} 0 1 = cc in absurd (omega arith)
 
 module _ {X : Type 0} (s : System X) (same : X → X → Bool) (actions : ℕ) (start : X) (C : X → Type 0) (E : Explorable s same actions start C) where
@@ -87,8 +86,8 @@ module _ {X : Type 0} (s : System X) (same : X → X → Bool) (actions : ℕ) (
   added_representatives l R a x r c = go (s.step a x) refl
     where
       go : (o : Option X) → s.step a x ≡ o → Representatives s start C (added same l o)
-      go none e = R
-      go (some y) e =
+      go None e = R
+      go (Some y) e =
           ⊎_elim
           (λ k. subst (Representatives s start C) (sym (added_old same l y k)) R)
           (λ k. subst (Representatives s start C) (sym (added_new same l y k)) (snoc_representatives l R y (by_step a r e) (E.closed a x y c e) k))
@@ -112,7 +111,7 @@ module _ {X : Type 0} (s : System X) (same : X → X → Bool) (actions : ℕ) (
       (λ m d p. prefix_trans p (added_prefix same (visited s same l x m) (s.step m x))) b h
 
   -- once action a is looked at, where it leads is known, at the place that it had before
-  visited_known : (l : List X) (x y : X) → C x → (a : ℕ) → s.step a x ≡ some y → T (known same (visited s same l x (suc a)) y)
+  visited_known : (l : List X) (x y : X) → C x → (a : ℕ) → s.step a x ≡ Some y → T (known same (visited s same l x (suc a)) y)
   unfolding visited
   visited_known l x y c a e =
       subst
@@ -120,7 +119,7 @@ module _ {X : Type 0} (s : System X) (same : X → X → Bool) (actions : ℕ) (
       (sym e)
       (added_known same (visited s same l x a) y (itself y (E.closed a x y c e)))
 
-  visited_place : (l : List X) (x y : X) → C x → (a : ℕ) → s.step a x ≡ some y → place same (visited s same l x (suc a)) y ≡ place same (visited s same l x a) y
+  visited_place : (l : List X) (x y : X) → C x → (a : ℕ) → s.step a x ≡ Some y → place same (visited s same l x (suc a)) y ≡ place same (visited s same l x a) y
   unfolding visited
   visited_place l x y c a e =
       ap (λ (o : Option X). place same (added same (visited s same l x a) o) y) e
@@ -212,7 +211,7 @@ module _ {X : Type 0} (s : System X) (same : X → X → Bool) (actions : ℕ) (
   member_stays n i h b = prefix_at (explore_prefix i n h) start i (present n i h b)
 
   -- an open action is below the bound
-  below : (a : ℕ) (x y : X) → s.step a x ≡ some y → a < actions
+  below : (a : ℕ) (x y : X) → s.step a x ≡ Some y → a < actions
   below a x y e = go (dec_lt a actions)
     where
       go : Dec (a < actions) → a < actions
@@ -262,39 +261,39 @@ module _ {X : Type 0} (s : System X) (same : X → X → Bool) (actions : ℕ) (
       (prefix_length (visited_le (explore s same actions start i) (get_or (explore s same actions start i) i start) (suc a) b d.1)))
 
   -- an action's target has the place that it had when the action was looked at, and was known then or is the next number
-  step_seen : (n i a : ℕ) (y : X) → i < n → i < length (explore s same actions start n) → s.step a (get_or (explore s same actions start n) i start) ≡ some y
+  step_seen : (n i a : ℕ) (y : X) → i < n → i < length (explore s same actions start n) → s.step a (get_or (explore s same actions start n) i start) ≡ Some y
       → T (known same (explore s same actions start n) y) × (place same (explore s same actions start n) y ≡ place same (seen s same actions start i a) y)
   unfolding seen
   step_seen n i a y h b e =
       let l = explore s same actions start i in
       let x = get_or (explore s same actions start i) i start in
       let b' = present n i (omega arith) b in
-      let e' : s.step a (get_or (explore s same actions start i) i start) ≡ some y = ap (s.step a) (sym (member_stays n i (omega arith) b)) ∙ e in
+      let e' : s.step a (get_or (explore s same actions start i) i start) ≡ Some y = ap (s.step a) (sym (member_stays n i (omega arith) b)) ∙ e in
       let c : C (get_or (explore s same actions start i) i start) = (explore_representatives i).covered i b' in
       let p = seen_prefix n i a h b (below a x y e') in
       let k = visited_known l x y c a e' in
       (prefix_known same p y k, prefix_place same p y k ∙ visited_place l x y c a e')
 
   -- Every open action of a visited member leads to a configuration that a member is equivalent to, the one at its place.
-  pub step_known : (n i a : ℕ) (y : X) → i < n → i < length (explore s same actions start n) → s.step a (get_or (explore s same actions start n) i start) ≡ some y
+  pub step_known : (n i a : ℕ) (y : X) → i < n → i < length (explore s same actions start n) → s.step a (get_or (explore s same actions start n) i start) ≡ Some y
       → place same (explore s same actions start n) y < length (explore s same actions start n)
   step_known n i a y h b e = (known_place same (explore s same actions start n) y).0 (step_seen n i a y h b e).0
 
-  pub step_alike : (n i a : ℕ) (y : X) → i < n → i < length (explore s same actions start n) → s.step a (get_or (explore s same actions start n) i start) ≡ some y
+  pub step_alike : (n i a : ℕ) (y : X) → i < n → i < length (explore s same actions start n) → s.step a (get_or (explore s same actions start n) i start) ≡ Some y
       → Alike s s (get_or (explore s same actions start n) (place same (explore s same actions start n) y) start) y
   step_alike n i a y h b e =
       let R = explore_representatives n in
       known_alike (explore s same actions start n) R y (E.closed a (get_or (explore s same actions start n) i start) y (R.covered i b) e) (step_seen n i a y h b e).0
 
   -- Numbering: a target is at most the number of those named before it,
-  pub step_named : (n i a : ℕ) (y : X) → i < n → i < length (explore s same actions start n) → s.step a (get_or (explore s same actions start n) i start) ≡ some y
+  pub step_named : (n i a : ℕ) (y : X) → i < n → i < length (explore s same actions start n) → s.step a (get_or (explore s same actions start n) i start) ≡ Some y
       → place same (explore s same actions start n) y ≤ length (seen s same actions start i a)
   step_named n i a y h b e = let p = (step_seen n i a y h b e).1 in omega (arith, place_le same (seen s same actions start i a) y)
 
   -- and the number of those named grows by one where it is just that
   pub seen_next : (n i a : ℕ) → i < n → i < length (explore s same actions start n)
       → length (seen s same actions start i (suc a))
-      ≡ grown (length (seen s same actions start i a)) (map (place same (explore s same actions start n)) (s.step a (get_or (explore s same actions start n) i start)))
+      ≡ grown (length (seen s same actions start i a)) (option_map (place same (explore s same actions start n)) (s.step a (get_or (explore s same actions start n) i start)))
   unfolding seen visited added grown
   seen_next n i a h b = go (s.step a x) refl
     where
@@ -307,9 +306,9 @@ module _ {X : Type 0} (s : System X) (same : X → X → Bool) (actions : ℕ) (
       stays : get_or (explore s same actions start n) i start ≡ x
       stays = member_stays n i (omega arith) b
 
-      one : (o : Option X) → s.step a x ≡ o → length (added same v o) ≡ grown (length v) (map (place same (explore s same actions start n)) o)
-      one none e = refl
-      one (some y) e =
+      one : (o : Option X) → s.step a x ≡ o → length (added same v o) ≡ grown (length v) (option_map (place same (explore s same actions start n)) o)
+      one None e = refl
+      one (Some y) e =
           let q : place same (explore s same actions start n) y ≡ place same v y = (step_seen n i a y h b (ap (s.step a) stays ∙ e)).1 in
           ⊎_elim
           (λ k. let c = (known_place same v y).0 (true_is (known same v y) k) in omega (arith, ap length (added_old same v y k)))
@@ -317,14 +316,14 @@ module _ {X : Type 0} (s : System X) (same : X → X → Bool) (actions : ℕ) (
           (told (known same v y))
 
       go : (o : Option X) → s.step a x ≡ o
-          → length (added same v (s.step a x)) ≡ grown (length v) (map (place same (explore s same actions start n)) (s.step a (get_or (explore s same actions start n) i start)))
+          → length (added same v (s.step a x)) ≡ grown (length v) (option_map (place same (explore s same actions start n)) (s.step a (get_or (explore s same actions start n) i start)))
       go o e =
           ap (λ (u : Option X). length (added same v u)) e
           ∙ one o e
-          ∙ ap (λ (u : Option X). grown (length v) (map (place same (explore s same actions start n)) u)) (sym (ap (s.step a) stays ∙ e))
+          ∙ ap (λ (u : Option X). grown (length v) (option_map (place same (explore s same actions start n)) u)) (sym (ap (s.step a) stays ∙ e))
 
   visited_origin : (l : List X) (x : X) (a j : ℕ) → length l ≤ j → j < length (visited s same l x a)
-      → (b : ℕ) × (b < a) × (s.step b x ≡ some (get_or (visited s same l x a) j start)) × (length (visited s same l x b) ≡ j)
+      → (b : ℕ) × (b < a) × (s.step b x ≡ Some (get_or (visited s same l x a) j start)) × (length (visited s same l x b) ≡ j)
   unfolding visited added
   visited_origin l x zero j h c = absurd (omega arith)
   visited_origin l x (suc a) j h c = go (dec_lt j (length (visited s same l x a))) (visited_origin l x a j h)
@@ -333,9 +332,9 @@ module _ {X : Type 0} (s : System X) (same : X → X → Bool) (actions : ℕ) (
       v = visited s same l x a
 
       new : (o : Option X) → s.step a x ≡ o → length v ≤ j → j < length (added same v o)
-          → (b : ℕ) × (b < suc a) × (s.step b x ≡ some (get_or (added same v (s.step a x)) j start)) × (length (visited s same l x b) ≡ j)
-      new none e d c' = absurd (omega arith)
-      new (some y) e d c' =
+          → (b : ℕ) × (b < suc a) × (s.step b x ≡ Some (get_or (added same v (s.step a x)) j start)) × (length (visited s same l x b) ≡ j)
+      new None e d c' = absurd (omega arith)
+      new (Some y) e d c' =
           ⊎_elim
           (λ k. absurd (omega (arith, ap length (added_old same v y k))))
           (λ k.
@@ -345,14 +344,14 @@ module _ {X : Type 0} (s : System X) (same : X → X → Bool) (actions : ℕ) (
           ∙ ap (λ (m : List X). get_or m j start) (added_new same v y k)
           ∙ ap (λ (i : ℕ). get_or (v ++ (y ∷ [])) i start) (sym q)
           ∙ get_or-append_seam v y [] start in
-          (a, omega arith, e ∙ ap (λ (z : X). some z) (sym g), q))
+          (a, omega arith, e ∙ ap (λ (z : X). Some z) (sym g), q))
           (told (known same v y))
 
-      go : Dec (j < length v) → (j < length v → (b : ℕ) × (b < a) × (s.step b x ≡ some (get_or v j start)) × (length (visited s same l x b) ≡ j))
-          → (b : ℕ) × (b < suc a) × (s.step b x ≡ some (get_or (added same v (s.step a x)) j start)) × (length (visited s same l x b) ≡ j)
+      go : Dec (j < length v) → (j < length v → (b : ℕ) × (b < a) × (s.step b x ≡ Some (get_or v j start)) × (length (visited s same l x b) ≡ j))
+          → (b : ℕ) × (b < suc a) × (s.step b x ≡ Some (get_or (added same v (s.step a x)) j start)) × (length (visited s same l x b) ≡ j)
       go (yes d) f =
           let (b, k, e, q) = f d in
-          (b, omega arith, e ∙ ap (λ (z : X). some z) (sym (prefix_at (added_prefix same v (s.step a x)) start j d)), q)
+          (b, omega arith, e ∙ ap (λ (z : X). Some z) (sym (prefix_at (added_prefix same v (s.step a x)) start j d)), q)
       go (no d) f = new (s.step a x) refl (omega arith) c
 
   -- every member but the start was named by an earlier one, and was the next number then
@@ -381,7 +380,7 @@ module _ {X : Type 0} (s : System X) (same : X → X → Bool) (actions : ℕ) (
             earlier = e;
             visits = omega arith;
             below = N.below;
-            leads = ap (s.step N.by) (prefix_at P start N.from (omega arith)) ∙ N.leads ∙ ap (λ (z : X). some z) (sym (prefix_at P start j d));
+            leads = ap (s.step N.by) (prefix_at P start N.from (omega arith)) ∙ N.leads ∙ ap (λ (z : X). Some z) (sym (prefix_at P start j d));
             next = N.next;
           }
       go (no d) (no k) f = let e = ap length (explore_stops n (omega arith)) in absurd (omega arith)
@@ -395,7 +394,7 @@ module _ {X : Type 0} (s : System X) (same : X → X → Bool) (actions : ℕ) (
             earlier = omega arith;
             visits = omega arith;
             below = c;
-            leads = ap (s.step b) (prefix_at P start n k) ∙ q ∙ ap (λ (m : List X). some (get_or m j start)) (sym e);
+            leads = ap (s.step b) (prefix_at P start n k) ∙ q ∙ ap (λ (m : List X). Some (get_or m j start)) (sym e);
             next = r;
           }
 

@@ -1,11 +1,10 @@
 -- Numbers that are given as first named: the tree of first namings gives each its first word, the shortest that leads to it and of several the first in
 -- dictionary order. An exploration gives such numbers.
-use Rattle.std.specs.Prelude.{ℕ, zero, suc, ◌≤◌, ◌<◌, ◌≡◌, ◌⊎◌, Bool, get_or}
+use Rattle.std.specs.Prelude.{ℕ, zero, suc, ◌≤◌, ◌<◌, ◌≡◌, ◌⊎◌, Bool, get_or, Option, Some, None, option_map}
 use Rattle.std.proofs.Common.{not-suc-le-zero, arith, sym, ◌∙◌, inl, inr, ⊎_elim, length-append}
 use Rattle.std.proofs.Math.Decide.{dec_lt}
 use Rattle.std.proofs.Math.Path.{refl, ap, subst}
 use mathlib.Core.List.{List, [], ◌∷◌, ◌++◌, append_assoc, append-nil}
-use Rattle.std.proofs.Math.Option.{Option, some, none, map}
 use Rattle.std.proofs.Math.ListN.{length}
 use Rattle.systems.specs.System.{System, Reading, after, earliest, first_barred, reading, Alike, Below, below_nil, below_cons, Reached, by_step}
 use Rattle.exploration.specs.Exploration.{place, explore}
@@ -38,35 +37,35 @@ ended_reached s start [] x r = r
 ended_reached {X} s start (a ∷ w) x r = ended_reached s start w (after x (s.step a x)) (go (s.step a x) refl)
   where
     go : (o : Option X) → s.step a x ≡ o → Reached s start (after x o)
-    go none e = r
-    go (some y) e = by_step a r e
+    go None e = r
+    go (Some y) e = by_step a r e
 
 -- one open action more
-pub ended_open : {X : Type 0} (s : System X) (v : List ℕ) (a : ℕ) (x y : X) → s.step a (ended s v x) ≡ some y → ended s (v ++ (a ∷ [])) x ≡ y
+pub ended_open : {X : Type 0} (s : System X) (v : List ℕ) (a : ℕ) (x y : X) → s.step a (ended s v x) ≡ Some y → ended s (v ++ (a ∷ [])) x ≡ y
 unfolding ended after
 ended_open s v a x y e = ended_append s v (a ∷ []) x ∙ ap (after (ended s v x)) e
 
-barred_open : {X : Type 0} (s : System X) (v : List ℕ) (a : ℕ) (x y : X) → first_barred s v x ≡ none → s.step a (ended s v x) ≡ some y
-    → first_barred s (v ++ (a ∷ [])) x ≡ none
+barred_open : {X : Type 0} (s : System X) (v : List ℕ) (a : ℕ) (x y : X) → first_barred s v x ≡ None → s.step a (ended s v x) ≡ Some y
+    → first_barred s (v ++ (a ∷ [])) x ≡ None
 unfolding ended first_barred earliest
-barred_open s [] a x y f e = ap (λ o. earliest o none) e
+barred_open s [] a x y f e = ap (λ o. earliest o None) e
 barred_open {X} s (b ∷ v) a x y f e = go (s.step b x) refl (λ f'. barred_open s v a (after x (s.step b x)) y f' e)
   where
-    later : (o : Option ℕ) → map suc o ≡ none → o ≡ none
-    later none q = refl
-    later (some k) q = let z : ◌≡◌ {A = ℕ} 0 1 = cc in absurd (omega arith)
+    later : (o : Option ℕ) → option_map suc o ≡ None → o ≡ None
+    later None q = refl
+    later (Some k) q = let z : ◌≡◌ {A = ℕ} 0 1 = cc in absurd (omega arith)
 
     go : (o : Option X) → s.step b x ≡ o
-        → (first_barred s v (after x (s.step b x)) ≡ none → first_barred s (v ++ (a ∷ [])) (after x (s.step b x)) ≡ none)
-        → earliest (s.step b x) (first_barred s (v ++ (a ∷ [])) (after x (s.step b x))) ≡ none
-    go none q again = absurd (let z : ◌≡◌ {A = Option ℕ} (some 0) none = ap (λ u. earliest u (first_barred s v (after x (s.step b x)))) (sym q) ∙ f in let z' : ◌≡◌ {A = ℕ} 0 1 = cc in omega arith)
-    go (some z) q again =
+        → (first_barred s v (after x (s.step b x)) ≡ None → first_barred s (v ++ (a ∷ [])) (after x (s.step b x)) ≡ None)
+        → earliest (s.step b x) (first_barred s (v ++ (a ∷ [])) (after x (s.step b x))) ≡ None
+    go None q again = absurd (let z : ◌≡◌ {A = Option ℕ} (Some 0) None = ap (λ u. earliest u (first_barred s v (after x (s.step b x)))) (sym q) ∙ f in let z' : ◌≡◌ {A = ℕ} 0 1 = cc in omega arith)
+    go (Some z) q again =
         let f' = later (first_barred s v (after x (s.step b x))) (ap (λ u. earliest u (first_barred s v (after x (s.step b x)))) (sym q) ∙ f) in
         ap (λ u. earliest u (first_barred s (v ++ (a ∷ [])) (after x (s.step b x)))) q
-        ∙ ap (map suc) (again f')
+        ∙ ap (option_map suc) (again f')
 
 -- an open action is below a bound from which on all are barred
-open_below : {X : Type 0} {actions : ℕ} {o : Option X} {y : X} (a : ℕ) → (actions ≤ a → o ≡ none) → o ≡ some y → a < actions
+open_below : {X : Type 0} {actions : ℕ} {o : Option X} {y : X} (a : ℕ) → (actions ≤ a → o ≡ None) → o ≡ Some y → a < actions
 open_below {X} {actions} {o} {y} a f e = go (dec_lt a actions)
   where
     go : Dec (a < actions) → a < actions
@@ -141,7 +140,7 @@ module _ {t : System ℕ} {n : ℕ} (N : NumberedAsNamed t n) where
       omega (arith, length-append v (a ∷ []))
 
   -- and leads there, with nothing barred on the way
-  pub along_leads : {k : ℕ} {w : List ℕ} → Along t k w → (ended t w 0 ≡ k) × (first_barred t w 0 ≡ none)
+  pub along_leads : {k : ℕ} {w : List ℕ} → Along t k w → (ended t w 0 ≡ k) × (first_barred t w 0 ≡ None)
   unfolding ended first_barred
   along_leads along_start = (refl, refl)
   along_leads (along_naming {i = i} {a = a} {k = k} {v = v} U p F) =
@@ -149,7 +148,7 @@ module _ {t : System ℕ} {n : ℕ} (N : NumberedAsNamed t n) where
       let q = ap (t.step a) e ∙ F.leads in
       (ended_open t v a 0 k q, barred_open t v a 0 k f q)
 
-  pub along_below : {k actions : ℕ} {w : List ℕ} → ((a i : ℕ) → actions ≤ a → t.step a i ≡ none) → Along t k w → Below actions w
+  pub along_below : {k actions : ℕ} {w : List ℕ} → ((a i : ℕ) → actions ≤ a → t.step a i ≡ None) → Along t k w → Below actions w
   along_below f along_start = below_nil
   along_below f (along_naming {i = i} {a = a} U p F) = below_snoc a (along_below f U) (open_below a (f a i) F.leads)
 
@@ -174,7 +173,7 @@ module _ {t : System ℕ} {n : ℕ} (N : NumberedAsNamed t n) where
       (pairs_compared i a i' b)
 
   -- an action leads from a number to one whose word is no later than that number's and then the action
-  along_step : {i a k : ℕ} {v w : List ℕ} → i < n → Along t i v → t.step a i ≡ some k → Along t k w → NoLater w (v ++ (a ∷ []))
+  along_step : {i a k : ℕ} {v w : List ℕ} → i < n → Along t i v → t.step a i ≡ Some k → Along t k w → NoLater w (v ++ (a ∷ []))
   along_step {i} {a} {k} {v} {w} h U e along_start = inr (nil_sooner v a)
   along_step {i} {a} {k} {v} h U e (along_naming {i = j} {a = b} {v = w} W q G) =
       let (y, y') = naming_next j b k q (N.closed a i k h e) G in
@@ -206,8 +205,8 @@ module _ {t : System ℕ} {n : ℕ} (N : NumberedAsNamed t n) where
       again = (y : ℕ) (z : List ℕ) → y < n → after i (t.step a i) ≡ y → Along t y z → NoLater z (u ++ (a ∷ [])) → NoLater w ((u ++ (a ∷ [])) ++ v)
 
       go : (o : Option ℕ) → t.step a i ≡ o → again → NoLater w (u ++ (a ∷ v))
-      go none p f = subst (λ (r : List ℕ). NoLater w r) (append_assoc u (a ∷ []) v) (f i x h (ap (after i) p) X (no_later_trans l (inr (sooner_more u a))))
-      go (some y) p f =
+      go None p f = subst (λ (r : List ℕ). NoLater w r) (append_assoc u (a ∷ []) v) (f i x h (ap (after i) p) X (no_later_trans l (inr (sooner_more u a))))
+      go (Some y) p f =
           let b = N.closed a i y h p in
           let (z, Z) = along_some y b in
           subst (λ (r : List ℕ). NoLater w r) (append_assoc u (a ∷ []) v) (f y z b (ap (after i) p) Z (no_later_trans (along_step h X p Z) (no_later_append (a ∷ []) l)))
@@ -240,8 +239,8 @@ module _ {X : Type 0} (s : System X) (start : X) {t : System ℕ} {n : ℕ} (N :
   number_led (a ∷ w) i h = number_led w (after i (t.step a i)) (go (t.step a i) refl)
     where
       go : (o : Option ℕ) → t.step a i ≡ o → after i (t.step a i) < n
-      go none e = subst (λ (z : ℕ). z < n) (sym (ap (after i) e)) h
-      go (some k) e = subst (λ (z : ℕ). z < n) (sym (ap (after i) e)) (N.closed a i k h e)
+      go None e = subst (λ (z : ℕ). z < n) (sym (ap (after i) e)) h
+      go (Some k) e = subst (λ (z : ℕ). z < n) (sym (ap (after i) e)) (N.closed a i k h e)
 
   only_number : (i j : ℕ) → i < n → j < n → Alike t t i j → i ≡ j
   only_number i j h l r =
@@ -293,8 +292,8 @@ numbered_same {t} {u} {n} e N =
 module _ {X : Type 0} (s : System X) (same : X → X → Bool) (actions : ℕ) (start : X) (C : X → Type 0) (E : Explorable s same actions start C)
     (n : ℕ) (complete : length (explore s same actions start n) ≤ n) where
   -- an action of a number that leads to k is below the bound, and leads from the member to a configuration whose place is k
-  step_member : (a i k : ℕ) → i < length (explore s same actions start n) → (quotient s same start (explore s same actions start n)).step a i ≡ some k
-      → (a < actions) × (map (place same (explore s same actions start n)) (s.step a (get_or (explore s same actions start n) i start)) ≡ some k)
+  step_member : (a i k : ℕ) → i < length (explore s same actions start n) → (quotient s same start (explore s same actions start n)).step a i ≡ Some k
+      → (a < actions) × (option_map (place same (explore s same actions start n)) (s.step a (get_or (explore s same actions start n) i start)) ≡ Some k)
   step_member a i k h e = (
     open_below a (λ b. quotient_bounded s same actions start C E n complete a b i) e,
     sym (quotient_step s same start (explore s same actions start n) a i h) ∙ e,
@@ -316,7 +315,7 @@ module _ {X : Type 0} (s : System X) (same : X → X → Bool) (actions : ℕ) (
       R : Representatives s start C l
       R = explore_representatives s same actions start C E n
 
-      counted : (i a j b k : ℕ) → Earlier i a j b → j < length l → (quotient s same start l).step a i ≡ some k → k < length (seen s same actions start j b)
+      counted : (i a j b k : ℕ) → Earlier i a j b → j < length l → (quotient s same start l).step a i ≡ Some k → k < length (seen s same actions start j b)
       counted i a j b k o h e =
           let g = earlier_below i a j b o h in
           let (c, q) = step_member a i k g e in
@@ -327,14 +326,14 @@ module _ {X : Type 0} (s : System X) (same : X → X → Bool) (actions : ℕ) (
       own k h = (place_alike s same actions start C E l R (get_or l k start) (R.covered k h) k h).1 (λ w. refl)
 
       origins : (k : ℕ) → 0 < k → k < length l
-          → (i : ℕ) × (a : ℕ) × (i < k) × ((quotient s same start l).step a i ≡ some k) × (length (seen s same actions start i a) ≡ k)
+          → (i : ℕ) × (a : ℕ) × (i < k) × ((quotient s same start l).step a i ≡ Some k) × (length (seen s same actions start i a) ≡ k)
       origins k p h =
           let M = origin s same actions start C E n k p h in
           let d = M.earlier in (
             M.from,
             M.by,
             d,
-            quotient_step s same start l M.by M.from (omega arith) ∙ ap (map (place same l)) M.leads ∙ ap (λ (m : ℕ). some m) (own k h),
+            quotient_step s same start l M.by M.from (omega arith) ∙ ap (option_map (place same l)) M.leads ∙ ap (λ (m : ℕ). Some m) (own k h),
             M.next,
           )
 

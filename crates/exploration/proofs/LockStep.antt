@@ -3,10 +3,8 @@ use Prim.Native.Nat.{ℕ, zero, suc, ◌≤◌, ◌<◌}
 use Rattle.std.proofs.Common.{not-suc-le-zero, le_of_suc-le-suc, le_refl, arith, sym, ◌∙◌}
 use Rattle.std.proofs.Math.Decide.{dec_lt}
 use Rattle.std.proofs.Math.Path.{◌≡◌, refl, ap}
-use Rattle.std.specs.Prelude.{Bool, List, [], ◌∷◌, ◌++◌, length, get_or}
+use Rattle.std.specs.Prelude.{Bool, List, [], ◌∷◌, ◌++◌, length, get_or, Option, Some, option_map, slice_get}
 use Rattle.std.proofs.Math.Bool.{true, false}
-use Rattle.std.proofs.Math.Option.{Option, some, map}
-use Rattle.std.proofs.Math.ListN.{get_elem?}
 use Rattle.systems.specs.System.{System, Alike}
 use Rattle.exploration.specs.Exploration.{place, known, added, visited, visited_at, visited_next, explore}
 use Rattle.systems.proofs.Laws.{same_test}
@@ -25,7 +23,7 @@ all2_at nil2 d e i h = absurd (not-suc-le-zero h)
 all2_at (cons2 r q) d e zero h = r
 all2_at (cons2 r q) d e (suc i) h = all2_at q d e i (le_of_suc-le-suc h)
 
-all2_both : {X Y : Type 0} {R : X → Y → Type 0} {l : List X} {m : List Y} → All2 R l m → (i : ℕ) → Both R (get_elem? l i) (get_elem? m i)
+all2_both : {X Y : Type 0} {R : X → Y → Type 0} {l : List X} {m : List Y} → All2 R l m → (i : ℕ) → Both R (slice_get l i) (slice_get m i)
 all2_both nil2 i = both_barred
 all2_both (cons2 r q) zero = both_open r
 all2_both (cons2 r q) (suc i) = all2_both q i
@@ -87,16 +85,16 @@ module _ {X Y : Type 0} (s : System X) (t : System Y) (same₁ : X → X → Boo
 
   -- and an action of corresponding members is barred in both, or has the same place in both
   pub lock_step_place : (x : X) (y : Y) → R x y → (n i a : ℕ) → i < length (explore s same₁ actions x n) → a < actions
-      → map (place same₁ (explore s same₁ actions x n)) (s.step a (get_or (explore s same₁ actions x n) i x))
-      ≡ map (place same₂ (explore t same₂ actions y n)) (t.step a (get_or (explore t same₂ actions y n) i y))
+      → option_map (place same₁ (explore s same₁ actions x n)) (s.step a (get_or (explore s same₁ actions x n) i x))
+      ≡ option_map (place same₂ (explore t same₂ actions y n)) (t.step a (get_or (explore t same₂ actions y n) i y))
   lock_step_place x y r n i a h b = go (L.steps (get_or (explore s same₁ actions x n) i x) (get_or (explore t same₂ actions y n) i y) (all2_at all x y i h) a b)
     where
       all : All2 R (explore s same₁ actions x n) (explore t same₂ actions y n)
       all = lock_explore x y r n
 
-      go : {o : Option X} {u : Option Y} → Both R o u → map (place same₁ (explore s same₁ actions x n)) o ≡ map (place same₂ (explore t same₂ actions y n)) u
+      go : {o : Option X} {u : Option Y} → Both R o u → option_map (place same₁ (explore s same₁ actions x n)) o ≡ option_map (place same₂ (explore t same₂ actions y n)) u
       go both_barred = refl
-      go (both_open {x = x'} {y = y'} q) = ap (λ (k : ℕ). some k) (lock_place x' y' all q)
+      go (both_open {x = x'} {y = y'} q) = ap (λ (k : ℕ). Some k) (lock_place x' y' all q)
 
 module _ {X Y : Type 0} (s : System X) (t : System Y) (same₁ : X → X → Bool) (same₂ : Y → Y → Bool) (actions : ℕ) (x₀ : X) (y₀ : Y) (C : X → Type 0) (D : Y → Type 0)
     (E : Explorable s same₁ actions x₀ C) (F : Explorable t same₂ actions y₀ D) where
@@ -130,8 +128,8 @@ module _ {X Y : Type 0} (s : System X) (t : System Y) (same₁ : X → X → Boo
 
   -- and each action of corresponding members is barred in both, or leads to the same place
   pub alike_explore_place : Alike s t x₀ y₀ → (n i a : ℕ) → i < length (explore s same₁ actions x₀ n)
-      → map (place same₁ (explore s same₁ actions x₀ n)) (s.step a (get_or (explore s same₁ actions x₀ n) i x₀))
-      ≡ map (place same₂ (explore t same₂ actions y₀ n)) (t.step a (get_or (explore t same₂ actions y₀ n) i y₀))
+      → option_map (place same₁ (explore s same₁ actions x₀ n)) (s.step a (get_or (explore s same₁ actions x₀ n) i x₀))
+      ≡ option_map (place same₂ (explore t same₂ actions y₀ n)) (t.step a (get_or (explore t same₂ actions y₀ n) i y₀))
   alike_explore_place h n i a b = go (dec_lt a actions)
     where
       x : X
@@ -141,8 +139,8 @@ module _ {X Y : Type 0} (s : System X) (t : System Y) (same₁ : X → X → Boo
       y = get_or (explore t same₂ actions y₀ n) i y₀
 
       go : Dec (a < actions)
-          → map (place same₁ (explore s same₁ actions x₀ n)) (s.step a x) ≡ map (place same₂ (explore t same₂ actions y₀ n)) (t.step a y)
+          → option_map (place same₁ (explore s same₁ actions x₀ n)) (s.step a x) ≡ option_map (place same₂ (explore t same₂ actions y₀ n)) (t.step a y)
       go (yes c) = lock_step_place s t same₁ same₂ actions (Matched s t C D) alike_lock_step x₀ y₀ (E.starts, F.starts, h) n i a b c
       go (no c) =
-          ap (map (place same₁ (explore s same₁ actions x₀ n))) (E.bounded a (omega arith) x)
-          ∙ sym (ap (map (place same₂ (explore t same₂ actions y₀ n))) (F.bounded a (omega arith) y))
+          ap (option_map (place same₁ (explore s same₁ actions x₀ n))) (E.bounded a (omega arith) x)
+          ∙ sym (ap (option_map (place same₂ (explore t same₂ actions y₀ n))) (F.bounded a (omega arith) y))

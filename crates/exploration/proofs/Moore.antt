@@ -3,11 +3,10 @@
 use Prim.Native.Nat.{ℕ, zero, suc, ◌+◌, ◌≤◌, ◌<◌}
 use Rattle.std.proofs.Math.Decide.{dec_le, le_ind}
 use native.Mathlib.Omega.{arith}
-use Rattle.std.specs.Prelude.{◌≡◌, ◌↔◌, ◌⊎◌, Bool, ltb, length}
+use Rattle.std.specs.Prelude.{◌≡◌, ◌↔◌, ◌⊎◌, Bool, ltb, length, Option, Some}
 use Rattle.std.proofs.Math.Path.{refl}
 use Rattle.std.proofs.Common.{sym, subst, inl, inr, ⊎_elim}
 use mathlib.Core.List.{List, Memᴰ}
-use Rattle.std.proofs.Math.Option.{Option, some}
 use Rattle.std.proofs.Math.Bool.{true, false}
 use Rattle.std.proofs.Math.Dec.{T, ltb→lt, lt→ltb}
 use Rattle.systems.specs.Search.{run, count}
@@ -83,7 +82,7 @@ module _ {X : Type 0} (l : List X) (e : ℕ → X → X → Bool) (C : Chain l e
   moore_length k = moore (length l) (omega arith) k
 
 module _ {X : Type 0} (s : System X) (l : List X) (e : ℕ → X → X → Bool) (D : Tested s l e) where
-  deeper : (k : ℕ) → Finer l (e k) (e (suc k)) → (o u : Option X) → ((y : X) → o ≡ some y → Memᴰ y l) → ((y : X) → u ≡ some y → Memᴰ y l)
+  deeper : (k : ℕ) → Finer l (e k) (e (suc k)) → (o u : Option X) → ((y : X) → o ≡ Some y → Memᴰ y l) → ((y : X) → u ≡ Some y → Memᴰ y l)
       → Both (AlikeTo k s s) o u → Both (AlikeTo (suc k) s s) o u
   deeper k f o u ho hu both_barred = both_barred
   deeper k f o u ho hu (both_open {x = x} {y = y} r) =
@@ -121,7 +120,7 @@ module _ {X : Type 0} (s : System X) (l : List X) (e : ℕ → X → X → Bool)
   alike_length = alike_moore (length l) (omega arith)
 
 -- The same for a system on the numbers below n: tests of equivalence to each depth, and steps that stay below n. A depth one less than n is enough.
-pub alike_numbers : (s : System ℕ) (n m : ℕ) (e : ℕ → ℕ → ℕ → Bool) → ((a i j : ℕ) → i < n → s.step a i ≡ some j → j < n)
+pub alike_numbers : (s : System ℕ) (n m : ℕ) (e : ℕ → ℕ → ℕ → Bool) → ((a i j : ℕ) → i < n → s.step a i ≡ Some j → j < n)
     → ((k i j : ℕ) → i < n → j < n → T (e k i j) ↔ AlikeTo k s s i j) → n ≤ suc m → (i j : ℕ) → i < n → j < n → AlikeTo m s s i j → Alike s s i j
 alike_numbers s n m e closed tells b i j hi hj h =
     let l = numbers_length n in

@@ -1,10 +1,9 @@
 -- What the search has found: where an action of a pair writes different entries, the pair's word and that action are the first word that separates the two
 -- starts; where all actions of all pairs were looked at, no word does.
-use Rattle.std.specs.Prelude.{ℕ, ◌≤◌, ◌<◌, ◌≡◌, refl, List, [], ◌∷◌, ◌++◌, length}
+use Rattle.std.specs.Prelude.{ℕ, ◌≤◌, ◌<◌, ◌≡◌, refl, List, [], ◌∷◌, ◌++◌, length, None}
 use Rattle.std.proofs.Math.Decide.{dec_lt}
 use Rattle.std.proofs.Common.{arith, sym, subst, ◌∙◌, inl, inr, ⊎_elim, append_assoc, append-nil, length-append}
 use Rattle.std.proofs.Math.Path.{ap}
-use Rattle.std.proofs.Math.Option.{none}
 use Rattle.systems.specs.System.{System, Reading, after, entry, written, reading, Alike}
 use Rattle.systems.specs.Words.{ended, Sooner, shorter, as_long}
 use Rattle.systems.specs.Alike.{Both, both_barred}
@@ -28,7 +27,7 @@ prefix_no_later v [] = inl (sym (append-nil v))
 prefix_no_later v (a ∷ z) = inr (shorter {v = v} {w = v ++ (a ∷ z)} (omega (arith, length-append v (a ∷ z))))
 
 module _ {X Y : Type 0} (s : System X) (t : System Y) (x₀ : X) (y₀ : Y) (actions : ℕ) {q : ℕ → Pair X Y} {m h a : ℕ} (Q : Visited s t x₀ y₀ actions q m h a)
-    (sb : (b : ℕ) → actions ≤ b → (x : X) → s.step b x ≡ none) (tb : (b : ℕ) → actions ≤ b → (y : Y) → t.step b y ≡ none) where
+    (sb : (b : ℕ) → actions ≤ b → (x : X) → s.step b x ≡ None) (tb : (b : ℕ) → actions ≤ b → (y : Y) → t.step b y ≡ None) where
   -- Where all words of a kind were looked at, and what is sooner than one of the kind is of it, words of the kind read the same.
   module _ (P : List ℕ → Type 0) (down : (v w : List ℕ) → Sooner v w → P w → P v)
       (ready : (k b : ℕ) → k < m → b < actions → P ((q k).word ++ (b ∷ [])) → Earlier k b h a) where

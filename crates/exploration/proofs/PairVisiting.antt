@@ -1,10 +1,9 @@
 -- One step of the search: the next action of a pair is barred on both sides, leads to what is joined already, or to a new pair.
-use Rattle.std.specs.Prelude.{ℕ, zero, suc, ◌+◌, ◌≤◌, ◌<◌, ◌≡◌, refl, ◌⊎◌}
+use Rattle.std.specs.Prelude.{ℕ, zero, suc, ◌+◌, ◌≤◌, ◌<◌, ◌≡◌, refl, ◌⊎◌, Some, None}
 use Rattle.std.proofs.Common.{add-one, sym, ap, ◌∙◌, inl, inr, ⊎_elim}
 use native.Mathlib.Omega.{arith}
 use Rattle.std.proofs.Math.Path.{subst}
 use mathlib.Core.List.{List, [], ◌∷◌, ◌++◌}
-use Rattle.std.proofs.Math.Option.{some, none}
 use Rattle.systems.specs.System.{System, below_nil}
 use Rattle.systems.specs.Words.{ended, Sooner}
 use Rattle.systems.proofs.Laws.{below_suc, below_next}
@@ -75,12 +74,12 @@ module _ {X Y : Type 0} (s : System X) (t : System Y) (x₀ : X) (y₀ : Y) (act
             (earlier_last k b h a o);
       }
 
-  pub visited_barred : {q : ℕ → Pair X Y} {m h a : ℕ} → Visited s t x₀ y₀ actions q m h a → s.step a (q h).left ≡ none → t.step a (q h).right ≡ none
+  pub visited_barred : {q : ℕ → Pair X Y} {m h a : ℕ} → Visited s t x₀ y₀ actions q m h a → s.step a (q h).left ≡ None → t.step a (q h).right ≡ None
       → Visited s t x₀ y₀ actions q m h (a + 1)
   visited_barred Q e f = looked_more Q (rw (e, f) both_barred)
 
   pub visited_joined : {q : ℕ → Pair X Y} {m h a : ℕ} {x : X} {y : Y} → Visited s t x₀ y₀ actions q m h a → h < m
-      → s.step a (q h).left ≡ some x → t.step a (q h).right ≡ some y → JoinedAll q m x y → Visited s t x₀ y₀ actions q m h (a + 1)
+      → s.step a (q h).left ≡ Some x → t.step a (q h).right ≡ Some y → JoinedAll q m x y → Visited s t x₀ y₀ actions q m h (a + 1)
   visited_joined Q l e f J =
       looked_more Q (rw (e, f) (both_open (record { agree = λ f g H. J.agree f g (λ k d. H k d (inr (words_before Q l k d))) })))
 
@@ -96,7 +95,7 @@ module _ {X Y : Type 0} (s : System X) (t : System Y) (x₀ : X) (y₀ : Y) (act
 
   -- a new pair is queued
   module _ {q q' : ℕ → Pair X Y} {m h a : ℕ} {x : X} {y : Y} (Q : Visited s t x₀ y₀ actions q m h a) (l : h < m) (ha : a < actions)
-      (e : s.step a (q h).left ≡ some x) (f : t.step a (q h).right ≡ some y) (labels : s.label x ≡ t.label y)
+      (e : s.step a (q h).left ≡ Some x) (f : t.step a (q h).right ≡ Some y) (labels : s.label x ≡ t.label y)
       (E : Extends q q' m) (N : q' m ≡ record { left = x; right = y; word = (q h).word ++ (a ∷ []) }) where
     new_held : Held s t x₀ y₀ actions (record { left = x; right = y; word = (q h).word ++ (a ∷ []) })
     new_held =

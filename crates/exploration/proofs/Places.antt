@@ -2,13 +2,12 @@
 use Prim.Native.Nat.{ℕ, zero, suc, ◌≤◌, ◌<◌}
 use Rattle.std.proofs.Common.{not-suc-le-zero, le_of_suc-le-suc, arith, ◌∙◌, inl, inr, length-append}
 use Rattle.std.proofs.Math.Decide.{dec_lt}
-use Rattle.std.specs.Prelude.{◌≡◌, ◌↔◌, ◌⊎◌, Bool, true, false, get_or}
+use Rattle.std.specs.Prelude.{◌≡◌, ◌↔◌, ◌⊎◌, Bool, true, false, get_or, Option, Some, None, slice_get}
 use Rattle.std.proofs.Math.Path.{refl, sym, ap, subst}
 use Rattle.std.proofs.Math.Logic.{⊎_elim}
 use mathlib.Core.List.{List, [], ◌∷◌, ◌++◌, append_assoc, append-nil}
-use Rattle.std.proofs.Math.Option.{Option, some, none}
 use Rattle.std.proofs.Math.Dec.{T}
-use Rattle.std.proofs.Math.ListN.{length, get_elem?, get_or-append}
+use Rattle.std.proofs.Math.ListN.{length, get_or-append}
 use Rattle.std.proofs.Math.Seq.{get_or-append_seam}
 use Rattle.systems.specs.Search.{least}
 use Rattle.exploration.specs.Exploration.{place, known, added}
@@ -17,12 +16,12 @@ use Rattle.systems.proofs.Laws.{told, true_is, not_true, least_here, least_later
 use Rattle.exploration.specs.Places.{Prefix}
 
 -- the member at an index below the length, and none past it
-pub at_in : {X : Type 0} (l : List X) (i : ℕ) (d : X) → i < length l → get_elem? l i ≡ some (get_or l i d)
+pub at_in : {X : Type 0} (l : List X) (i : ℕ) (d : X) → i < length l → slice_get l i ≡ Some (get_or l i d)
 at_in [] i d h = absurd (not-suc-le-zero h)
 at_in (x ∷ l) zero d h = refl
 at_in (x ∷ l) (suc i) d h = at_in l i d (le_of_suc-le-suc h)
 
-pub at_out : {X : Type 0} (l : List X) (i : ℕ) → length l ≤ i → get_elem? l i ≡ none
+pub at_out : {X : Type 0} (l : List X) (i : ℕ) → length l ≤ i → slice_get l i ≡ None
 at_out [] i h = refl
 at_out (x ∷ l) zero h = absurd (not-suc-le-zero h)
 at_out (x ∷ l) (suc i) h = at_out l i (le_of_suc-le-suc h)
@@ -131,44 +130,44 @@ module _ {X : Type 0} (same : X → X → Bool) where
       place_is m x x (place same l x) (omega (arith, prefix_length p)) (subst (λ (z : X). T (same z x)) (sym (prefix_at p x (place same l x) h)) (known_at l x x t))
       (λ j b u. (place_first l x x).first j b (subst (λ (z : X). T (same z x)) (prefix_at p x j (omega arith)) u))
 
-  pub added_old : (l : List X) (y : X) → known same l y ≡ true → added same l (some y) ≡ l
+  pub added_old : (l : List X) (y : X) → known same l y ≡ true → added same l (Some y) ≡ l
   unfolding added
   added_old l y e = rw (e, added)
 
-  pub added_new : (l : List X) (y : X) → known same l y ≡ false → added same l (some y) ≡ l ++ (y ∷ [])
+  pub added_new : (l : List X) (y : X) → known same l y ≡ false → added same l (Some y) ≡ l ++ (y ∷ [])
   unfolding added
   added_new l y e = rw (e, added)
 
   pub added_prefix : (l : List X) (o : Option X) → Prefix l (added same l o)
   unfolding added
-  added_prefix l none = prefix_refl l
-  added_prefix l (some y) =
+  added_prefix l None = prefix_refl l
+  added_prefix l (Some y) =
       ⊎_elim
       (λ e. subst (Prefix l) (sym (added_old l y e)) (prefix_refl l))
       (λ e. record { rest = y ∷ []; is = added_new l y e })
       (told (known same l y))
 
   -- an appended element is known, and has the place that it had before: the length, where it was not known
-  pub added_known : (l : List X) (y : X) → T (same y y) → T (known same (added same l (some y)) y)
+  pub added_known : (l : List X) (y : X) → T (same y y) → T (known same (added same l (Some y)) y)
   added_known l y t = ⊎_elim old new (told (known same l y))
     where
-      old : known same l y ≡ true → T (known same (added same l (some y)) y)
-      old e = prefix_known (added_prefix l (some y)) y (true_is (known same l y) e)
+      old : known same l y ≡ true → T (known same (added same l (Some y)) y)
+      old e = prefix_known (added_prefix l (Some y)) y (true_is (known same l y) e)
 
-      new : known same l y ≡ false → T (known same (added same l (some y)) y)
+      new : known same l y ≡ false → T (known same (added same l (Some y)) y)
       new e =
           subst
           (λ (m : List X). T (known same m y))
           (sym (added_new l y e))
           (known_in (l ++ (y ∷ [])) y y (length l) (omega (arith, length-append l (y ∷ []))) (subst (λ (z : X). T (same z y)) (sym (get_or-append_seam l y [] y)) t))
 
-  pub added_place : (l : List X) (y : X) → T (same y y) → place same (added same l (some y)) y ≡ place same l y
+  pub added_place : (l : List X) (y : X) → T (same y y) → place same (added same l (Some y)) y ≡ place same l y
   added_place l y t = ⊎_elim old new (told (known same l y))
     where
-      old : known same l y ≡ true → place same (added same l (some y)) y ≡ place same l y
-      old e = prefix_place (added_prefix l (some y)) y (true_is (known same l y) e)
+      old : known same l y ≡ true → place same (added same l (Some y)) y ≡ place same l y
+      old e = prefix_place (added_prefix l (Some y)) y (true_is (known same l y) e)
 
-      new : known same l y ≡ false → place same (added same l (some y)) y ≡ place same l y
+      new : known same l y ≡ false → place same (added same l (Some y)) y ≡ place same l y
       new e =
           ap (λ (m : List X). place same m y) (added_new l y e)
           ∙ place_is (l ++ (y ∷ [])) y y (length l) (omega (arith, length-append l (y ∷ [])))

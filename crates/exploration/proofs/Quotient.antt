@@ -1,10 +1,9 @@
 -- The quotient of a system by equivalence: its members are the numbers of a complete exploration.
-use Rattle.std.specs.Prelude.{ℕ, zero, suc, ◌≤◌, ◌<◌, ◌≡◌, refl, Bool, length, get_or}
+use Rattle.std.specs.Prelude.{ℕ, zero, suc, ◌≤◌, ◌<◌, ◌≡◌, refl, Bool, length, get_or, Option, Some, None, option_map}
 use Rattle.std.proofs.Common.{not-suc-le-zero, arith, ap, subst, ◌∙◌, lt-ltb, le-ltb}
 use Rattle.std.proofs.Math.Decide.{dec_lt}
 use Rattle.std.proofs.Math.Path.{sym}
 use mathlib.Core.List.{List}
-use Rattle.std.proofs.Math.Option.{Option, some, none, map}
 use Rattle.systems.specs.System.{System, Alike, Reached, at_start, by_step}
 use Rattle.exploration.specs.Exploration.{place, explore}
 use Rattle.systems.specs.Alike.{Both, both_barred, both_open, Bisimulation}
@@ -18,12 +17,12 @@ unfolding quotient
 quotient_label s same start l i = refl
 
 pub quotient_step : {X : Type 0} (s : System X) (same : X → X → Bool) (start : X) (l : List X) (a i : ℕ) → i < length l
-    → (quotient s same start l).step a i ≡ map (place same l) (s.step a (get_or l i start))
+    → (quotient s same start l).step a i ≡ option_map (place same l) (s.step a (get_or l i start))
 unfolding quotient
 quotient_step s same start l a i h = rw (lt-ltb i (length l) h, quotient)
 
 pub quotient_past : {X : Type 0} (s : System X) (same : X → X → Bool) (start : X) (l : List X) (a i : ℕ) → length l ≤ i
-    → (quotient s same start l).step a i ≡ none
+    → (quotient s same start l).step a i ≡ None
 unfolding quotient
 quotient_past s same start l a i h = rw (le-ltb i (length l) h, quotient)
 
@@ -48,7 +47,7 @@ module _ {X : Type 0} (s : System X) (same : X → X → Bool) (actions : ℕ) (
       next x i r a =
           subst (Both related (s.step a x)) (sym (quotient_step s same start l a i r.0)) (go (s.step a (get_or l i start)) refl (alike_next s s x (get_or l i start) r.1 a))
         where
-          go : {o : Option X} (u : Option X) → s.step a (get_or l i start) ≡ u → Both (Alike s s) o u → Both related o (map (place same l) u)
+          go : {o : Option X} (u : Option X) → s.step a (get_or l i start) ≡ u → Both (Alike s s) o u → Both related o (option_map (place same l) u)
           go u e both_barred = both_barred
           go u e (both_open {x = x'} {y = z} q) =
               let b : i < n = (let h = r.0 in omega arith) in
@@ -69,32 +68,32 @@ module _ {X : Type 0} (s : System X) (same : X → X → Bool) (actions : ℕ) (
 
   -- an action leads to a number of the quotient,
   pub quotient_closed : (a i k : ℕ) → i < length (explore s same actions start n)
-      → (quotient s same start (explore s same actions start n)).step a i ≡ some k → k < length (explore s same actions start n)
+      → (quotient s same start (explore s same actions start n)).step a i ≡ Some k → k < length (explore s same actions start n)
   quotient_closed a i k h e = go (s.step a (get_or l i start)) refl
     where
       l : List X
       l = explore s same actions start n
 
       go : (o : Option X) → s.step a (get_or l i start) ≡ o → k < length l
-      go none q =
-          let z : ◌≡◌ {A = Option ℕ} none (some k) = ap (map (place same l)) (sym q) ∙ sym (quotient_step s same start l a i h) ∙ e in
+      go None q =
+          let z : ◌≡◌ {A = Option ℕ} None (Some k) = ap (option_map (place same l)) (sym q) ∙ sym (quotient_step s same start l a i h) ∙ e in
           let z' : ◌≡◌ {A = ℕ} 0 1 = cc in
           absurd (omega arith)
-      go (some y) q =
-          let z : some (place same l y) ≡ some k = ap (map (place same l)) (sym q) ∙ sym (quotient_step s same start l a i h) ∙ e in
+      go (Some y) q =
+          let z : Some (place same l y) ≡ Some k = ap (option_map (place same l)) (sym q) ∙ sym (quotient_step s same start l a i h) ∙ e in
           let z' : place same l y ≡ k = cc in
           let b = step_known s same actions start C E n i a y (omega arith) h q in
           omega arith
 
   -- and the actions from the bound on are barred.
-  pub quotient_bounded : (a : ℕ) → actions ≤ a → (i : ℕ) → (quotient s same start (explore s same actions start n)).step a i ≡ none
+  pub quotient_bounded : (a : ℕ) → actions ≤ a → (i : ℕ) → (quotient s same start (explore s same actions start n)).step a i ≡ None
   quotient_bounded a h i = go (dec_lt i (length l))
     where
       l : List X
       l = explore s same actions start n
 
-      go : Dec (i < length l) → (quotient s same start l).step a i ≡ none
-      go (yes b) = quotient_step s same start l a i b ∙ ap (map (place same l)) (E.bounded a h (get_or l i start))
+      go : Dec (i < length l) → (quotient s same start l).step a i ≡ None
+      go (yes b) = quotient_step s same start l a i b ∙ ap (option_map (place same l)) (E.bounded a h (get_or l i start))
       go (no b) = quotient_past s same start l a i (omega arith)
 
   -- Every number is reached from 0.
@@ -117,4 +116,4 @@ module _ {X : Type 0} (s : System X) (same : X → X → Bool) (actions : ℕ) (
           let N = origin s same actions start C E n (suc j) (omega arith) b in
           let d = N.earlier in
           by_step N.by (go k N.from (omega arith) (omega arith))
-          (quotient_step s same start l N.by N.from (omega arith) ∙ ap (map (place same l)) N.leads ∙ ap (λ (m : ℕ). some m) (own (suc j) b))
+          (quotient_step s same start l N.by N.from (omega arith) ∙ ap (option_map (place same l)) N.leads ∙ ap (λ (m : ℕ). Some m) (own (suc j) b))

@@ -1,7 +1,5 @@
 -- The exploration of a transition system up to a test of membership in a class, in the order in which configurations are first named.
-use Rattle.std.specs.Prelude.{ℕ, zero, suc, Bool, true, false, List, [], ◌∷◌, ◌++◌}
-use Rattle.std.proofs.Math.Option.{Option, some, none}
-use Rattle.std.proofs.Math.ListN.{get_elem?}
+use Rattle.std.specs.Prelude.{ℕ, zero, suc, Bool, true, false, List, [], ◌∷◌, ◌++◌, Option, Some, None, slice_get}
 use Rattle.systems.specs.System.{System}
 
 -- the index of the first member m with same m x, or the length where there is none
@@ -16,8 +14,8 @@ known same (m ∷ l) x = elim (same m x) [ true ↦ true | false ↦ known same 
 
 -- the list with a configuration appended, unless it is barred or known
 unfoldable pub added : {X : Type 0} → (X → X → Bool) → List X → Option X → List X
-added same l none = l
-added same l (some y) = elim (known same l y) [ true ↦ l | false ↦ l ++ (y ∷ []) ]
+added same l None = l
+added same l (Some y) = elim (known same l y) [ true ↦ l | false ↦ l ++ (y ∷ []) ]
 
 -- the list after the first a actions from x, in order
 unfoldable pub visited : {X : Type 0} → System X → (X → X → Bool) → List X → X → ℕ → List X
@@ -26,12 +24,12 @@ visited s same l x (suc a) = added same (visited s same l x a) (s.step a x)
 
 -- the list after all actions from a configuration, if there is one
 unfoldable pub visited_at : {X : Type 0} → System X → (X → X → Bool) → ℕ → List X → Option X → List X
-visited_at s same actions l none = l
-visited_at s same actions l (some x) = visited s same l x actions
+visited_at s same actions l None = l
+visited_at s same actions l (Some x) = visited s same l x actions
 
 -- the list after its member n has been visited, if it has one
 unfoldable pub visited_next : {X : Type 0} → System X → (X → X → Bool) → ℕ → List X → ℕ → List X
-visited_next s same actions l n = visited_at s same actions l (get_elem? l n)
+visited_next s same actions l n = visited_at s same actions l (slice_get l n)
 
 -- the list after the first n members have been visited, in order. All are visited once its length is at most n.
 unfoldable pub explore : {X : Type 0} → System X → (X → X → Bool) → ℕ → X → ℕ → List X

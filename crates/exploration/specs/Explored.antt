@@ -1,8 +1,7 @@
 -- What the exploration of a system finds: representatives of the classes of the reached configurations, numbered as first named.
 use Prim.Native.Nat.{ℕ, suc, ◌≤◌, ◌<◌, max}
-use Rattle.std.specs.Prelude.{◌≡◌, ◌↔◌, Bool}
+use Rattle.std.specs.Prelude.{◌≡◌, ◌↔◌, Bool, Option, Some, None}
 use mathlib.Core.List.{List}
-use Rattle.std.proofs.Math.Option.{Option, some, none}
 use Rattle.std.proofs.Math.Dec.{T}
 use Rattle.std.proofs.Math.ListN.{length, get_or}
 use Rattle.systems.specs.System.{System, Alike, Reached}
@@ -12,9 +11,9 @@ use Rattle.exploration.specs.Exploration.{visited, explore}
 -- and all actions from a bound on are barred.
 pub record Explorable {X : Type 0} (s : System X) (same : X → X → Bool) (actions : ℕ) (start : X) (C : X → Type 0) : Type 0 where
   pub starts : C start
-  pub closed : (a : ℕ) (x y : X) → C x → s.step a x ≡ some y → C y
+  pub closed : (a : ℕ) (x y : X) → C x → s.step a x ≡ Some y → C y
   pub tells : (x y : X) → C x → C y → T (same x y) ↔ Alike s s x y
-  pub bounded : (a : ℕ) → actions ≤ a → (x : X) → s.step a x ≡ none
+  pub bounded : (a : ℕ) → actions ≤ a → (x : X) → s.step a x ≡ None
 
 -- The list begins with the start; its members are reached and covered, and no two of them are equivalent.
 pub record Representatives {X : Type 0} (s : System X) (start : X) (C : X → Type 0) (l : List X) : Type 0 where
@@ -30,8 +29,8 @@ seen s same actions start i a = visited s same (explore s same actions start i) 
 
 -- how many are named once a target is named, or none is
 unfoldable pub grown : ℕ → Option ℕ → ℕ
-grown c none = c
-grown c (some t) = max c (suc t)
+grown c None = c
+grown c (Some t) = max c (suc t)
 
 -- member j was first named by action `by` from the earlier member `from`, as the next number
 pub record Named {X : Type 0} (s : System X) (same : X → X → Bool) (actions : ℕ) (start : X) (n j : ℕ) : Type 0 where
@@ -40,7 +39,7 @@ pub record Named {X : Type 0} (s : System X) (same : X → X → Bool) (actions 
   pub earlier : from < j
   pub visits : from < n
   pub below : by < actions
-  pub leads : s.step by (get_or (explore s same actions start n) from start) ≡ some (get_or (explore s same actions start n) j start)
+  pub leads : s.step by (get_or (explore s same actions start n) from start) ≡ Some (get_or (explore s same actions start n) j start)
   pub next : length (seen s same actions start from by) ≡ j
 
 -- m configurations that are reached, no two of them equivalent

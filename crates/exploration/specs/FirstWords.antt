@@ -1,8 +1,7 @@
 -- Numbers that are given as first named: the tree of first namings gives each its first word, the shortest that leads to it and of several the first in
 -- dictionary order. An exploration gives such numbers.
-use Rattle.std.specs.Prelude.{ℕ, ◌<◌, ◌≡◌, ◌⊎◌}
+use Rattle.std.specs.Prelude.{ℕ, ◌<◌, ◌≡◌, ◌⊎◌, Some, None}
 use mathlib.Core.List.{List, [], ◌∷◌, ◌++◌}
-use Rattle.std.proofs.Math.Option.{some, none}
 use Rattle.systems.specs.System.{System, first_barred, Alike}
 use Rattle.systems.specs.Words.{ended, Sooner}
 
@@ -14,15 +13,15 @@ Earlier i a j b = (i < j) ⊎ ((i ≡ j) × (a < b))
 pub record NumberedAsNamed (t : System ℕ) (n : ℕ) : Type 0 where
   -- how many are named, 0 among them, when action a of number i is looked at: all to which something earlier leads
   pub named : ℕ → ℕ → ℕ
-  pub counted : (i a j b k : ℕ) → Earlier i a j b → j < n → t.step a i ≡ some k → k < named j b
+  pub counted : (i a j b k : ℕ) → Earlier i a j b → j < n → t.step a i ≡ Some k → k < named j b
   -- each number but 0 is named by a smaller one, as the next
-  pub origin : (k : ℕ) → 0 < k → k < n → (i : ℕ) × (a : ℕ) × (i < k) × (t.step a i ≡ some k) × (named i a ≡ k)
-  pub closed : (a i k : ℕ) → i < n → t.step a i ≡ some k → k < n
+  pub origin : (k : ℕ) → 0 < k → k < n → (i : ℕ) × (a : ℕ) × (i < k) × (t.step a i ≡ Some k) × (named i a ≡ k)
+  pub closed : (a i k : ℕ) → i < n → t.step a i ≡ Some k → k < n
 
 -- action a of number i leads to k, and nothing earlier does
 pub record FirstNaming (t : System ℕ) (i a k : ℕ) : Type 0 where
-  pub leads : t.step a i ≡ some k
-  pub first : (j b : ℕ) → Earlier j b i a → t.step b j ≡ some k → ⊥
+  pub leads : t.step a i ≡ Some k
+  pub first : (j b : ℕ) → Earlier j b i a → t.step b j ≡ Some k → ⊥
 
 -- The word of a number along the tree of first namings: that of 0 is empty, that of any other is the word of the number that first names it, and then the
 -- action by which it does.
@@ -34,5 +33,5 @@ pub data Along (t : System ℕ) : ℕ → List ℕ → Type 0 where
 -- leads to what is equivalent to k is sooner.
 pub record FirstWord {X : Type 0} (s : System X) (start : X) (t : System ℕ) (k : ℕ) (w : List ℕ) : Type 0 where
   pub arrives : Alike s t (ended s w start) k
-  pub unbarred : first_barred s w start ≡ none
+  pub unbarred : first_barred s w start ≡ None
   pub first : (v : List ℕ) → Alike s t (ended s v start) k → Sooner v w → ⊥

@@ -1,9 +1,8 @@
 -- The Moore bound: a chain of ever finer equivalences on a finite list settles within as many steps as the list is longer than the
 -- first has classes.
 use Prim.Native.Nat.{ℕ, suc}
-use Rattle.std.specs.Prelude.{◌≡◌, ◌↔◌, Bool, ltb}
+use Rattle.std.specs.Prelude.{◌≡◌, ◌↔◌, Bool, ltb, Some}
 use mathlib.Core.List.{List, Memᴰ}
-use Rattle.std.proofs.Math.Option.{some}
 use Rattle.std.proofs.Math.Dec.{T}
 use Rattle.systems.specs.Search.{count}
 use Rattle.systems.specs.System.{System}
@@ -26,5 +25,5 @@ changes l e = count (changed l e)
 
 -- For a system and a list that its steps do not leave, with tests of equivalence to each depth on the list's members:
 pub record Tested {X : Type 0} (s : System X) (l : List X) (e : ℕ → X → X → Bool) : Type 0 where
-  pub closed : (a : ℕ) (x y : X) → Memᴰ x l → s.step a x ≡ some y → Memᴰ y l
+  pub closed : (a : ℕ) (x y : X) → Memᴰ x l → s.step a x ≡ Some y → Memᴰ y l
   pub tells : (k : ℕ) (x y : X) → Memᴰ x l → Memᴰ y l → T (e k x y) ↔ AlikeTo k s s x y

@@ -1,7 +1,6 @@
 -- The quotient of a system by equivalence: its members are the numbers of a complete exploration.
-use Rattle.std.specs.Prelude.{ℕ, Bool, true, false, ltb, length, get_or}
+use Rattle.std.specs.Prelude.{ℕ, Bool, true, false, ltb, length, get_or, None, option_map}
 use mathlib.Core.List.{List}
-use Rattle.std.proofs.Math.Option.{none, map}
 use Rattle.systems.specs.System.{System}
 use Rattle.exploration.specs.Exploration.{place}
 
@@ -11,5 +10,5 @@ unfoldable pub quotient : {X : Type 0} → System X → (X → X → Bool) → X
 quotient s same start l =
     record {
       label = λ i. s.label (get_or l i start);
-      step = λ a i. elim (ltb i (length l)) [ true ↦ map (place same l) (s.step a (get_or l i start)) | false ↦ none ];
+      step = λ a i. elim (ltb i (length l)) [ true ↦ option_map (place same l) (s.step a (get_or l i start)) | false ↦ None ];
     }

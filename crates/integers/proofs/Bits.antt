@@ -1,33 +1,36 @@
 -- How the code reads numbers from bytes, for the widths of document 01.
-use Rattle.std.specs.Prelude.{◌≡◌, refl, List, ℕ, ◌+◌, ◌*◌, ◌^◌, ◌≤◌, ◌<◌, get_or, ℤ, pos, negsuc, ◌-ℤ◌}
-use Rattle.std.proofs.Common.{arith, add-zero, add_assoc, get_or-drop, drop-drop, lt-ltb, le-ltb, SFits, to_z}
-use Rattle.std.specs.Int.{w64}
-use Rattle.std.proofs.Math.Facts.{to_z_pos}
-use Rattle.integers.specs.Order.{up, dn}
-use Rattle.integers.proofs.Order.{fits_small, sub_parts}
+use Rattle.std.specs.Prelude.{◌≡◌, refl, List, ℕ, ◌+◌, ◌*◌, ◌<◌, get_or, cond, ltb, pos, ◌-ℤ◌}
+use Rattle.std.proofs.Common.{ap, arith, add-zero, add_assoc, get_or-drop, drop-drop, lt-ltb, le-ltb, to_z}
+use Rattle.std.specs.Int.{w8, w16, w32}
+use Rattle.std.proofs.lemmas.Int.{ints as signed}
+use Rattle.std.proofs.Math.Decide.{dec_lt}
 use Rattle.integers.specs.LittleEndian.{joined, unsigned_at, signed_of, signed_at}
 use Rattle.integers.specs.Bits.{from_bits}
 
-pub bits_low : (half u : ℕ) → u < half → half ≤ 2147483648 → to_z w64 u ≡ from_bits half u
+-- the machine's casts read them so
+pub cast_one : (u : ℕ) → u < 256 → to_z w8 u ≡ from_bits 128 u
 unfolding from_bits
-bits_low half u h k = rw (lt-ltb u half h) (to_z_pos w64 (omega arith))
-
-pub bits_high : (half u : ℕ) → half ≤ u → u < half + half → half ≤ 2147483648 → to_z w64 u -ℤ to_z w64 (half + half) ≡ from_bits half u
-unfolding from_bits
-bits_high half u h k l =
-    let p : u < 2 ^ 63 = omega arith in
-    let q : half + half < 2 ^ 63 = omega arith in
-    rw (le-ltb u half h, to_z_pos w64 p, to_z_pos w64 q) refl
-
-pub bits_fit : (half u : ℕ) → u < half + half → half ≤ 2147483648 → SFits w64 (to_z w64 u -ℤ to_z w64 (half + half))
-bits_fit half u k l =
-    let p : u < 2 ^ 63 = omega arith in
-    let q : half + half < 2 ^ 63 = omega arith in
-    rw (to_z_pos w64 p, to_z_pos w64 q) (small (pos u -ℤ pos (half + half)) (sub_parts (pos u) (pos (half + half))))
+cast_one u h = go (dec_lt u 128)
   where
-    small : (z : ℤ) → up z + (0 + (half + half)) ≡ dn z + (u + 0) → SFits w64 z
-    small (pos n) e = fits_small (pos n) (omega arith)
-    small (negsuc n) e = fits_small (negsuc n) (omega arith)
+    go : Dec (u < 128) → to_z w8 u ≡ cond (ltb u 128) (pos u) (pos u -ℤ pos 256)
+    go (yes l) = rw (lt-ltb u 128 l) (omega (arith, signed))
+    go (no l) = rw (le-ltb u 128 (omega arith)) (omega (arith, signed))
+
+pub cast_two : (u : ℕ) → u < 65536 → to_z w16 u ≡ from_bits 32768 u
+unfolding from_bits
+cast_two u h = go (dec_lt u 32768)
+  where
+    go : Dec (u < 32768) → to_z w16 u ≡ cond (ltb u 32768) (pos u) (pos u -ℤ pos 65536)
+    go (yes l) = rw (lt-ltb u 32768 l) (omega (arith, signed))
+    go (no l) = rw (le-ltb u 32768 (omega arith)) (omega (arith, signed))
+
+pub cast_four : (u : ℕ) → u < 4294967296 → to_z w32 u ≡ from_bits 2147483648 u
+unfolding from_bits
+cast_four u h = go (dec_lt u 2147483648)
+  where
+    go : Dec (u < 2147483648) → to_z w32 u ≡ cond (ltb u 2147483648) (pos u) (pos u -ℤ pos 4294967296)
+    go (yes l) = rw (lt-ltb u 2147483648 l) (omega (arith, signed))
+    go (no l) = rw (le-ltb u 2147483648 (omega arith)) (omega (arith, signed))
 
 -- the numbers of one, two and four bytes
 pub one_byte : (s : List ℕ) (at : ℕ) → get_or s at 0 ≡ unsigned_at 1 s at
@@ -44,6 +47,16 @@ four_bytes s at a b p q =
     let u = simp (drop-drop, get_or-drop, add-zero, add_assoc) at p in
     let v = simp (drop-drop, get_or-drop, add-zero, add_assoc) at q in
     simp (drop-drop, get_or-drop, add-zero, add_assoc) (omega arith)
+
+-- two and four bytes as std joins them
+pub joined_two : (s : List ℕ) (at : ℕ) → get_or s at 0 + get_or s (at + 1) 0 * 256 ≡ unsigned_at 2 s at
+joined_two s at = omega (arith, two_bytes s at (get_or s at 0) (get_or s (at + 1) 0) refl refl)
+
+pub joined_four : (s : List ℕ) (at : ℕ) → get_or s at 0 + get_or s (at + 1) 0 * 256 + get_or s (at + 2) 0 * 65536 + get_or s (at + 3) 0 * 16777216 ≡ unsigned_at 4 s at
+joined_four s at =
+    let u = joined_two s at in
+    let v = two_bytes s (at + 2) (get_or s (at + 2) 0) (get_or s (at + 3) 0) refl (ap (λ (k : ℕ). get_or s k 0) (omega arith)) in
+    omega (arith, four_bytes s at (unsigned_at 2 s at) (unsigned_at 2 s (at + 2)) refl refl)
 
 -- the three signed widths
 pub signed_one : (s : List ℕ) (at u : ℕ) → u ≡ unsigned_at 1 s at → from_bits 128 u ≡ signed_at 1 s at

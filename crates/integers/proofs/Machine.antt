@@ -3,7 +3,8 @@ use Rattle.std.specs.Prelude.{◌≡◌, refl, true, false, ℕ, ◌+◌, ◌^�
 use Rattle.std.proofs.Common.{sym, arith, SFits}
 use Rattle.std.specs.Int.Signed.{le_z, lt_z, non_neg, mag}
 use Rattle.std.specs.Int.{w64}
-use Rattle.std.proofs.lemmas.Int.{to_z-of_z}
+use Rattle.std.specs.Int.{int_min, int_max}
+use Rattle.std.proofs.lemmas.Int.{to_z-of_z, ints as signed}
 use Rattle.integers.specs.declared.Range.{Range}
 use Rattle.integers.specs.Order.{up, dn}
 use Rattle.integers.proofs.Order.{ints, fits_out, fits_small, lt_z_false, add_parts, sub_parts}
@@ -40,6 +41,15 @@ larger_second a b e = rw e refl
 pub larger_first : (a b : ℤ) → le_z a b ≡ false → a ≡ larger a b
 unfolding larger
 larger_first a b e = rw e refl
+
+-- std's lesser and greater of two
+pub min_is : (a b : ℤ) → int_min a b ≡ smaller a b
+unfolding smaller
+min_is a b = grind (arith, signed)
+
+pub max_is : (a b : ℤ) → int_max a b ≡ larger a b
+unfolding larger
+max_is a b = grind (arith, signed)
 
 pub contains_yes : (r : Range) (x : ℤ) → le_z r.low x ≡ true → le_z x r.high ≡ contains r x
 unfolding contains

@@ -2,9 +2,17 @@
 // Internal: serves sister crates; a function may ask what its callers have made sure of.
 #![tactic(auto)]
 
+use std::fmt;
+
 // The whole numbers from low to high, both included; none where low is above high.
-#[derive(Clone, Copy)]
+#[derive(Clone, Copy, Debug, PartialEq, Eq, Hash)]
 pub struct Range {
     pub low: i64,
     pub high: i64,
+}
+
+impl fmt::Display for Range {
+    fn fmt<W: fmt::Write>(&self, f: &mut fmt::Formatter<W>) -> fmt::Result {
+        write!(f, "{}..{}", self.low, self.high)
+    }
 }

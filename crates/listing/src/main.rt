@@ -3,183 +3,82 @@
 
 ghost use Rattle.std.specs.Prelude.{◌<◌, ◌≤◌};
 
-use charting::Made;
 use std::io;
 
-// The byte at a place; 0 past the end.
-fn byte(s: &[u8], at: usize) -> usize
-    ensures { result < 256 }
-{
-    if at < s.len() { s[at] as usize } else { 0 }
-}
-
-// A 16-bit number, the lower byte first.
-fn two_bytes(s: &[u8], at: usize) -> usize
-    requires { at < 10000 }
-    ensures { result < 65536 }
-{
-    byte(s, at) + 256 * byte(s, at + 1)
-}
-
-// A 32-bit number, the lowest byte first.
-fn four_bytes(s: &[u8], at: usize) -> usize
-    requires { at < 9500 }
-    ensures { result < 4294967296 }
-{
-    two_bytes(s, at) + 65536 * two_bytes(s, at + 2)
-}
-
-// A number in two's complement, one of so many: from their half on it is negative.
-fn put_twos(rt: &impl Print, u: usize, whole: usize) -> io::Result<()>
-    requires { (u < 4294967296) × (whole ≤ 4294967296) }
-{
-    if u < whole / 2 {
-        text::put_signed(rt, u as i64)
-    } else {
-        text::put_signed(rt, u as i64 - whole as i64)
+// A bound of 2 or 4 bytes, in two's complement.
+fn bound(bytes: &[u8]) -> i32 {
+    match *bytes {
+        [a, b] => i32::from(i16::from_le_bytes([a, b])),
+        [a, b, c, d] => i32::from_le_bytes([a, b, c, d]),
+        _ => 0,
     }
 }
 
-// A bound of 2 or 4 bytes.
-fn put_bound(rt: &impl Print, list: &[u8], at: usize, width: usize) -> io::Result<()>
-    requires { at < 9500 }
+// A block's box: its state, then low and high of each counter.
+fn put_box(rt: &impl Print, list: &[u8], width: usize) -> io::Result<()>
+    requires { (0 < width) × (width ≤ 4) }
 {
-    if width == 2 {
-        put_twos(rt, two_bytes(list, at), 65536)
-    } else {
-        put_twos(rt, four_bytes(list, at), 4294967296)
-    }
-}
-
-// The box of counter v, whose bounds stand at a place of the box list.
-fn put_counter(rt: &impl Print, list: &[u8], at: usize, width: usize, v: usize) -> io::Result<()>
-    requires { (at < 9000) × (width ≤ 4) }
-{
-    text::put(rt, b" x")?;
-    text::put_number(rt, v as u64)?;
-    text::put(rt, b" ")?;
-    put_bound(rt, list, at, width)?;
-    text::put(rt, b"..")?;
-    put_bound(rt, list, at + width, width)
-}
-
-fn put_counters(
-    rt: &impl Print,
-    list: &[u8],
-    at: usize,
-    width: usize,
-    counters: usize,
-) -> io::Result<()>
-    requires { (at < 7000) × (width ≤ 4) × (counters ≤ 3) }
-{
-    for v in 0..counters {
-        put_counter(rt, list, at + 2 * width * v, width, v)?;
+    let [state, bounds @ ..] = list else {
+        return Ok(());
+    };
+    print!(rt; " state {state}")?;
+    for (v, both) in bounds.chunks_exact(2 * width).enumerate() {
+        let (low, high) = both.split_at(width);
+        print!(rt; " x{v} {}..{}", bound(low), bound(high))?;
     }
     Ok(())
 }
 
-fn put_targets(rt: &impl Print, chart: &[u8], at: usize, actions: usize) -> io::Result<()>
-    requires { (at < 5000) × (actions < 256) }
-{
-    for a in 0..actions {
-        text::put_target(rt, byte(chart, at + a) as u8, a)?;
-    }
-    Ok(())
-}
-
-// How long the records of a chart and of its box list are: numbers of counters and actions, and how many bytes a bound takes.
-#[derive(Clone, Copy)]
-struct Sizes {
-    counters: usize,
-    actions: usize,
-    width: usize,
-}
-
-// A block's line: its number and label, then what stands at its places of the chart and the box list.
+// A block's line: its number and label, its box, and where its actions lead.
 fn put_block(
     rt: &impl Print,
-    chart: &[u8],
-    entry: usize,
+    number: usize,
+    record: &[u8],
     list: &[u8],
-    place: usize,
-    sizes: Sizes,
-    i: usize,
+    width: usize,
 ) -> io::Result<()>
-    requires bound { (entry < 4000) × (place < 6400) }
-    requires counters_bound { (sizes.counters ≤ 3) × (sizes.actions ≤ 8) × (sizes.width ≤ 4) }
+    requires { (0 < width) × (width ≤ 4) }
 {
-    text::put_number(rt, i as u64)?;
-    text::put(rt, b" label ")?;
-    text::put_number(rt, two_bytes(chart, entry) as u64)?;
-    text::put(rt, b" state ")?;
-    text::put_number(rt, byte(list, place) as u64)?;
-    put_counters(rt, list, place + 1, sizes.width, sizes.counters)?;
-    put_targets(rt, chart, entry + 2, sizes.actions)?;
-    text::put(rt, b"\n")
-}
-
-fn put_blocks(
-    rt: &impl Print,
-    chart: &[u8],
-    list: &[u8],
-    sizes: Sizes,
-    blocks: usize,
-) -> io::Result<()>
-    requires { (sizes.counters ≤ 3) × (sizes.actions ≤ 8) × (sizes.width ≤ 4) × (blocks ≤ 255) }
-{
-    let mut entry = 7;
-    let mut place = 0;
-    for i in 0..blocks {
-        put_block(rt, chart, entry, list, place, sizes, i)?;
-        entry += 2 + sizes.actions;
-        place += 1 + 2 * sizes.width * sizes.counters;
+    let [low, high, targets @ ..] = record else {
+        return Ok(());
+    };
+    let label = u16::from_le_bytes([*low, *high]);
+    print!(rt; "{number} label {label}")?;
+    put_box(rt, list, width)?;
+    for (a, &target) in targets.iter().enumerate() {
+        text::put_target(rt, target, a)?;
     }
-    Ok(())
+    println!(rt; "")
 }
 
-// How many bytes a bound takes: 4 in version 2 of the sheet.
-fn bound_size(sheet: &[u8]) -> usize
-    ensures { result ≤ 4 }
-{
-    if byte(sheet, 3) == 2 { 4 } else { 2 }
-}
-
+// The chart of an accepted sheet, with so many blocks.
 fn put_chart(
     rt: &impl Print,
     sheet: &[u8],
-    chart: &[u8],
-    list: &[u8],
+    chart: &[u8; 2557],
+    list: &[u8; 6375],
     blocks: usize,
 ) -> io::Result<()> {
-    let counters = byte(sheet, 5);
-    let actions = byte(chart, 5);
-    let width = bound_size(sheet);
-    if counters > 3 {
-        return Ok(());
-    }
-    if actions > 8 {
-        return Ok(());
-    }
-    if blocks > 255 {
-        return Ok(());
-    }
+    let wide = sheet.get(3) == Some(&2);
+    let width = if wide { 4 } else { 2 };
+    let counters = usize::from(sheet.get(5).copied().unwrap_or(0));
+    let actions = usize::from(chart[5]);
     text::put_header(rt, blocks, actions)?;
-    let sizes = Sizes {
-        counters,
-        actions,
-        width,
-    };
-    put_blocks(rt, chart, list, sizes, blocks)
+    let records = chart[7..].chunks_exact(2 + actions);
+    let boxes = list.chunks_exact(1 + 2 * width * counters);
+    for (number, (record, bounds)) in records.zip(boxes).take(blocks).enumerate() {
+        put_block(rt, number, record, bounds, width)?;
+    }
+    Ok(())
 }
 
 // The listing of a sheet.
 fn list_sheet(rt: &impl Print, sheet: &[u8]) -> io::Result<()> {
     let mut chart = [0u8; 2557];
     let mut list = [0u8; 6375];
-    let made = charting::make(sheet, &mut chart, &mut list);
-    match made {
-        Made::Done { blocks } => put_chart(rt, sheet, &chart, &list, blocks),
-        Made::Refused { number, returned } => text::put_refusal(rt, number, returned),
+    match charting::make(sheet, &mut chart, &mut list) {
+        Ok(blocks) => put_chart(rt, sheet, &chart, &list, blocks),
+        Err(refusal) => text::put_refusal(rt, refusal),
     }
 }
 

@@ -2,29 +2,20 @@
 // Public: no function asks anything of its caller, and each contract gives the answer as a definition does.
 #![tactic(auto)]
 
-ghost use Rattle.std.specs.Prelude.{◌≡◌, ◌≤◌, min, length};
+ghost use Rattle.std.specs.Prelude.{◌≡◌, ◌≤◌, length};
 ghost use Rattle.log_rules.specs.Compare.{first_difference, rest_of, lent, lent_from, part_of};
-
-// The lesser of two lengths.
-fn lesser(a: usize, b: usize) -> usize
-    ensures { result ≡ min a b }
-{
-    if a < b { a } else { b }
-}
 
 // The first index where two logs differ; where none does, the length of the shorter. Nothing behind it is read.
 pub fn first_difference(first: &[u16], second: &[u16]) -> usize
     ensures { result ≡ first_difference first.now second.now }
 {
-    let both = lesser(first.len(), second.len());
-    let mut at = 0;
-    while at < both {
+    let both = first.len().min(second.len());
+    for at in 0..both {
         if first[at] != second[at] {
             return at;
         }
-        at += 1;
     }
-    at
+    both
 }
 
 // A log from an index on, to its end, where it lies.
@@ -40,7 +31,7 @@ pub fn rest<'a>(first: &'a [u16], second: &'a [u16]) -> &'a [u16]
     ensures { lent result ≡ part_of (rest_of first.now second.now) first.entry second.entry }
 {
     let at = first_difference(first, second);
-    if at < lesser(first.len(), second.len()) {
+    if at < first.len().min(second.len()) {
         // they differ
         return tail(first, first.len());
     }

@@ -1,26 +1,14 @@
 // Ranges of whole numbers.
 ghost use Rattle.std.specs.Prelude.{◌≡◌};
-ghost use Rattle.integers.specs.Range.{smaller, larger, contains, near, vacant, meet, size, RangeWithin};
+ghost use Rattle.integers.specs.Range.{contains, near, vacant, meet, size, RangeWithin};
 
 use integers::Range;
-
-pub fn smaller_of(a: i64, b: i64) -> i64
-    ensures { result ≡ smaller a b }
-{
-    if a <= b { a } else { b }
-}
-
-pub fn larger_of(a: i64, b: i64) -> i64
-    ensures { result ≡ larger a b }
-{
-    if a <= b { b } else { a }
-}
 
 // Whether x is in the range.
 pub fn has(r: Range, x: i64) -> bool
     ensures { result ≡ contains r x }
 {
-    if r.low <= x { x <= r.high } else { false }
+    r.low <= x && x <= r.high
 }
 
 // Whether z is within n of zero.
@@ -43,9 +31,10 @@ pub fn is_vacant(r: Range) -> bool
 pub fn common(a: Range, b: Range) -> Range
     ensures { result ≡ meet a b }
 {
-    let low = larger_of(a.low, b.low);
-    let high = smaller_of(a.high, b.high);
-    Range { low, high }
+    Range {
+        low: a.low.max(b.low),
+        high: a.high.min(b.high),
+    }
 }
 
 // How many whole numbers the range holds.

@@ -1,12 +1,13 @@
 -- The claims hold of every making, by the definitions that the contracts cite.
-use Rattle.std.specs.Prelude.{◌≡◌, refl, ◌↔◌, Bool, true, false, not, List, ℕ, ◌≤◌, ◌<◌, T, length, get_or, take, drop}
+use Rattle.std.specs.Prelude.{◌≡◌, refl, ◌↔◌, Bool, true, false, not, List, ℕ, ◌≤◌, ◌<◌, T, length, get_or, take, drop, Result, Ok, Err}
 use Rattle.std.proofs.Common.{sym, ap, subst, ◌∙◌, arith, take_at, get_or-take, ext_get_or, ltb-false, le-ltb, lt-ltb}
 use Rattle.std.proofs.Math.Decide.{dec_le}
 use Rattle.integers.specs.LittleEndian.{Bytes}
 use Rattle.systems.specs.System.{Reading, reading, Below}
 use Rattle.exploration.specs.Explored.{Many}
-use Rattle.answer_rules.specs.declared.Checked.{Checked}
-use Rattle.answer_rules.specs.declared.Checked.TheVariants.{Fine, Refused}
+use Rattle.answer_rules.specs.declared.Reason.TheVariants.{Blocks}
+use Rattle.answer_rules.specs.declared.Refusal.{Refusal}
+use Rattle.answer_rules.specs.Refusal.{Checked, at}
 use Rattle.answer_rules.specs.Stages.{demand}
 use Rattle.answer_rules.proofs.Stages.{passed, then_fine, demand_fine, demand_passed}
 use Rattle.answer_rules.specs.Run.{overwrite, run_checks, ran_by, left_by}
@@ -29,46 +30,44 @@ use Rattle.sheet_rules.specs.RunSheet.{sheet_run_check, sheet_ran, sheet_left}
 use Rattle.chart.specs.Check.{chart_check}
 use Rattle.chart.specs.OfSheet.{chart_accepted, runs_agree}
 use Rattle.chart.specs.RunChart.{chart_ran, chart_left as runLeft}
-use Rattle.making_rules.specs.declared.Made.{Made}
-use Rattle.making_rules.specs.declared.Made.TheVariants.{Done}
 use Rattle.making_rules.specs.Making.{chart_size, list_size, block_checks, make_checks, made_by, written_by}
 use Rattle.making_rules.proofs.Making.{many_blocks, rooms_fit, rooms_pass, sheet_passed}
 use Rattle.making_rules.specs.Claims.{made, chart_left, list_left, block_count, chart_length, Suffices, system_of, ReadAlike, InListed, BoxesRight, SameBehaviour, Demand2, Demand3}
 
 -- what an answer says of the checks
-made_fine : (c : Checked) (s : Sheet) (n : ℕ) → made_by c s ≡ Done n → (c ≡ Fine) × (n ≡ length (blocks s))
+made_fine : (c : Checked) (s : Sheet) (n : ℕ) → made_by c s ≡ Ok n → (c ≡ Ok tt) × (n ≡ length (blocks s))
 unfolding made_by
-made_fine Fine s n e = (refl, sym same)
+made_fine (Ok _) s n e = (refl, sym same)
   where
     same : length (blocks s) ≡ n
     same = cc
-made_fine (Refused k p) s n e = let z : ◌≡◌ {A = ℕ} 0 1 = cc in absurd (omega arith)
+made_fine (Err why) s n e = absurd cc
 
-made_refused : (c : Checked) (s : Sheet) (k p : ℕ) → made_by c s ≡ Made.Refused k p → c ≡ Refused k p
+made_refused : (c : Checked) (s : Sheet) (why : Refusal) → made_by c s ≡ Err why → c ≡ Err why
 unfolding made_by
-made_refused Fine s k p e = let z : ◌≡◌ {A = ℕ} 0 1 = cc in absurd (omega arith)
-made_refused (Refused j q) s k p e = let a : j ≡ k = cc in let b : q ≡ p = cc in cc
+made_refused (Ok _) s why e = absurd cc
+made_refused (Err why') s why e = let d : why' ≡ why = cc in ap Err d
 
 -- a making that was not refused
 record Makes (s : List ℕ) (n : ℕ) (chart list : List ℕ) : Type 0 where
-  pub passes : make_checks s (length chart) (length list) ≡ Fine
+  pub passes : make_checks s (length chart) (length list) ≡ Ok tt
   pub count : n ≡ block_count s
-  pub accepts : sheet_check s ≡ Fine
+  pub accepts : sheet_check s ≡ Ok tt
   pub few : block_count s ≤ 255
   pub room : Suffices s (block_count s) chart list
 
-makes : (s chart list : List ℕ) (n : ℕ) → made s chart list ≡ Done n → Makes s n chart list
+makes : (s chart list : List ℕ) (n : ℕ) → made s chart list ≡ Ok n → Makes s n chart list
 unfolding make_checks block_checks too_many chart_size list_size decode
 makes s chart list n e =
     let (f, k) = made_fine (make_checks s (length chart) (length list)) (decode s) n e in
     let (a, r) = then_fine (sheet_check s) _ f in
-    let (b, q) = then_fine (demand (not (too_many (decode s))) 9 0) _ r in
+    let (b, q) = then_fine (demand (not (too_many (decode s))) (at Blocks 0)) _ r in
     let (x, y) = rooms_fit (chart_size (decode s)) (list_size (bound_size s) (decode s)) (length chart) (length list) q in
     record {
       passes = f;
       count = k;
       accepts = a;
-      few = ltb-false 255 (block_count s) (was_false (too_many (decode s)) (demand_fine _ 9 0 b));
+      few = ltb-false 255 (block_count s) (was_false (too_many (decode s)) (demand_fine _ (at Blocks 0) b));
       room = record { chart_room = omega arith; list_room = omega arith };
     }
   where
@@ -77,22 +76,22 @@ makes s chart list n e =
     was_false false d = refl
 
 -- an accepted sheet with at most 255 blocks passes all checks in buffers that suffice,
-checks_pass : (s chart list : List ℕ) → sheet_check s ≡ Fine → block_count s ≤ 255 → Suffices s (block_count s) chart list
-    → make_checks s (length chart) (length list) ≡ Fine
+checks_pass : (s chart list : List ℕ) → sheet_check s ≡ Ok tt → block_count s ≤ 255 → Suffices s (block_count s) chart list
+    → make_checks s (length chart) (length list) ≡ Ok tt
 unfolding make_checks block_checks too_many chart_size list_size decode
 checks_pass s chart list a few room =
     sym
     (passed a
-    (passed (sym (demand_passed (not (too_many (decode s))) 9 0 (ap not (le-ltb 255 (block_count s) few))))
+    (passed (sym (demand_passed (not (too_many (decode s))) (at Blocks 0) (ap not (le-ltb 255 (block_count s) few))))
     (rooms_pass (chart_size (decode s)) (list_size (bound_size s) (decode s)) (length chart) (length list) room.chart_room room.list_room)))
 
 -- and one with more is refused 9, whatever the buffers are
-checks_many : (s chart list : List ℕ) → sheet_check s ≡ Fine → 255 < block_count s → make_checks s (length chart) (length list) ≡ Refused 9 0
+checks_many : (s chart list : List ℕ) → sheet_check s ≡ Ok tt → 255 < block_count s → make_checks s (length chart) (length list) ≡ Err (at Blocks 0)
 unfolding too_many
 checks_many s chart list a many =
     sym (many_blocks (bound_size s) (decode s) (length chart) (length list) (lt-ltb 255 (block_count s) many) ∙ sheet_passed s (length chart) (length list) refl a)
 
-made_done : (s chart list : List ℕ) → sheet_check s ≡ Fine → block_count s ≤ 255 → Suffices s (block_count s) chart list → made s chart list ≡ Done (block_count s)
+made_done : (s chart list : List ℕ) → sheet_check s ≡ Ok tt → block_count s ≤ 255 → Suffices s (block_count s) chart list → made s chart list ≡ Ok (block_count s)
 unfolding made_by
 made_done s chart list a few room = ap (λ (c : Checked). made_by c (decode s)) (checks_pass s chart list a few room)
 
@@ -102,7 +101,7 @@ unfolding record_at decode chart_of
 chart_length_lem s = chart_of_length (decode s)
 
 -- the front of the chart's buffer is the chart
-pub chart_written : (s chart list : List ℕ) (n : ℕ) → made s chart list ≡ Done n → take (chart_length s n) (chart_left s chart list) ≡ chart_of (decode s)
+pub chart_written : (s chart list : List ℕ) (n : ℕ) → made s chart list ≡ Ok n → take (chart_length s n) (chart_left s chart list) ≡ chart_of (decode s)
 unfolding written_by overwrite
 chart_written s chart list n e =
     let M = makes s chart list n e in
@@ -110,9 +109,9 @@ chart_written s chart list n e =
     ∙ take_at (chart_of (decode s)) (drop (length (chart_of (decode s))) chart) (chart_length s n) (chart_length_lem s ∙ ap (chart_length s) (sym M.count))
 
 -- a refused making leaves a buffer as it was
-left_unchanged : (c : Checked) (s : Sheet) (k p : ℕ) (front old : List ℕ) → made_by c s ≡ Made.Refused k p → written_by c front old ≡ old
+left_unchanged : (c : Checked) (s : Sheet) (why : Refusal) (front old : List ℕ) → made_by c s ≡ Err why → written_by c front old ≡ old
 unfolding written_by
-left_unchanged c s k p front old e = ap (λ (d : Checked). written_by d front old) (made_refused c s k p e)
+left_unchanged c s why front old e = ap (λ (d : Checked). written_by d front old) (made_refused c s why e)
 
 -- as many bytes as a bound takes hold the bounds that were read
 bounds_held : (s : List ℕ) → Bytes s → BoundsHeld (bound_size s) (decode s)
@@ -122,7 +121,7 @@ bounds_held s B =
     each_listed {P = RangeHeld (bound_size s)} (range_at s i) (counters_of s) (λ v k. range_held s i v B))
 
 -- the list's buffer holds the classes of the blocks
-pub box_written : (s chart list : List ℕ) (n : ℕ) → Bytes s → made s chart list ≡ Done n → (i : ℕ) → i < n
+pub box_written : (s chart list : List ℕ) (n : ℕ) → Bytes s → made s chart list ≡ Ok n → (i : ℕ) → i < n
     → listed_box (bound_size s) (counters_of s) (list_left s chart list) i ≡ class_of (decode s) (block_at (decode s) i)
 unfolding written_by overwrite decode
 box_written s chart list n B e i h =
@@ -133,7 +132,7 @@ box_written s chart list n B e i h =
     ∙ boxes_listed (bound_size s) (decode s) (accepted s B M.accepts) (omega arith) (bounds_held s B) i (drop (length (box_list_of (bound_size s) (decode s))) list) (omega arith)
 
 -- so what the theorems say of classes holds of the listed boxes
-boxes_right_of : (s chart list : List ℕ) (n : ℕ) → Bytes s → made s chart list ≡ Done n → BoxesRight s n (chart_left s chart list) (list_left s chart list)
+boxes_right_of : (s chart list : List ℕ) (n : ℕ) → Bytes s → made s chart list ≡ Ok n → BoxesRight s n (chart_left s chart list) (list_left s chart list)
 boxes_right_of s chart list n B e =
     record {
       box_reached = λ i h. let (r, (b, t)) = M.blocks_reached i (small i h) in (block_at (decode s) i, r, out i h (block_at (decode s) i) t);
@@ -181,11 +180,11 @@ boxes_right_of s chart list n B e =
     reads i y h t = ((M.boxes_exact i y (small i h)).0 (into i h y t)).1
 
 -- a run on the sheet that was accepted
-run_read : (s w : List ℕ) (k : ℕ) → sheet_check s ≡ Fine → run_checks (actions_of s) w k ≡ sheet_run_check s w k
+run_read : (s w : List ℕ) (k : ℕ) → sheet_check s ≡ Ok tt → run_checks (actions_of s) w k ≡ sheet_run_check s w k
 unfolding sheet_run_check
 run_read s w k a = passed a refl
 
-runs_of : (s : List ℕ) → Bytes s → sheet_check s ≡ Fine → block_count s ≤ 255 → (w entries : List ℕ)
+runs_of : (s : List ℕ) → Bytes s → sheet_check s ≡ Ok tt → block_count s ≤ 255 → (w entries : List ℕ)
     → (chart_ran (chart_of (decode s)) w (length entries) ≡ sheet_ran s w (length entries)) × (runLeft (chart_of (decode s)) w entries ≡ sheet_left s w entries)
 unfolding sheet_ran sheet_left decode
 runs_of s B a few w entries =
@@ -194,25 +193,28 @@ runs_of s B a few w entries =
     (sym p ∙ ap (λ (c : Checked). ran_by c (sheet_reading (decode s) w)) e, sym q ∙ ap (λ (c : Checked). left_by c (sheet_reading (decode s) w) entries) e)
 
 -- an accepted sheet that is refused in buffers that suffice
-only_ground_of : (s chart list : List ℕ) → Bytes s → sheet_check s ≡ Fine → (block_count s ≤ 255 → Suffices s (block_count s) chart list)
-    → (number returned : ℕ) → made s chart list ≡ Made.Refused number returned
-    → (number ≡ 9) × (returned ≡ 0) × Many (system_of s) (decode s).start 256
+refusal : {v w : Refusal} → ◌≡◌ {A = Checked} (Err v) (Err w) → v ≡ w
+refusal e = cc
+
+only_ground_of : (s chart list : List ℕ) → Bytes s → sheet_check s ≡ Ok tt → (block_count s ≤ 255 → Suffices s (block_count s) chart list)
+    → (why : Refusal) → made s chart list ≡ Err why
+    → (why ≡ at Blocks 0) × Many (system_of s) (decode s).start 256
 unfolding too_many
-only_ground_of s chart list B a room number returned e = go (dec_le (block_count s) 255)
+only_ground_of s chart list B a room why e = go (dec_le (block_count s) 255)
   where
-    go : Dec (block_count s ≤ 255) → (number ≡ 9) × (returned ≡ 0) × Many (system_of s) (decode s).start 256
-    go (yes few) = let d = made_done s chart list a few (room few) in let z : ◌≡◌ {A = ℕ} 0 1 = cc in absurd (omega arith)
+    go : Dec (block_count s ≤ 255) → (why ≡ at Blocks 0) × Many (system_of s) (decode s).start 256
+    go (yes few) = let d = made_done s chart list a few (room few) in absurd cc
     go (no many) =
-        let c = made_refused (make_checks s (length chart) (length list)) (decode s) number returned e in
+        let c = made_refused (make_checks s (length chart) (length list)) (decode s) why e in
         let r = checks_many s chart list a (omega arith) in
-        (cc, cc, (minimal_reachable (decode s) (accepted s B a)).refused_many.0 (lt-ltb 255 (block_count s) (omega arith)))
+        (refusal (sym c ∙ r), (minimal_reachable (decode s) (accepted s B a)).refused_many.0 (lt-ltb 255 (block_count s) (omega arith)))
 
 pub demand_2 : (s chart list : List ℕ) → Bytes s → Demand2 s (made s chart list) chart list (chart_left s chart list) (list_left s chart list)
 demand_2 s chart list B =
     record {
       chart_accepted = λ n e.
           let M = makes s chart list n e in
-          subst (λ (c : List ℕ). chart_check c ≡ Fine) (sym (chart_written s chart list n e)) (chart_accepted (decode s) (accepted s B M.accepts) M.few);
+          subst (λ (c : List ℕ). chart_check c ≡ Ok tt) (sym (chart_written s chart list n e)) (chart_accepted (decode s) (accepted s B M.accepts) M.few);
       chart_right = λ n e.
           let M = makes s chart list n e in
           (chart_right (decode s) (accepted s B M.accepts) M.few, chart_written s chart list n e);
@@ -228,9 +230,9 @@ demand_2 s chart list B =
       made_few = made_done s chart list;
       made_only = λ n e. let M = makes s chart list n e in (M.count, M.accepts, M.few, M.room);
       only_ground = only_ground_of s chart list B;
-      refused_unchanged = λ k p e. (
-        left_unchanged (make_checks s (length chart) (length list)) (decode s) k p (chart_of (decode s)) chart e,
-        left_unchanged (make_checks s (length chart) (length list)) (decode s) k p (box_list_of (bound_size s) (decode s)) list e,
+      refused_unchanged = λ why e. (
+        left_unchanged (make_checks s (length chart) (length list)) (decode s) why (chart_of (decode s)) chart e,
+        left_unchanged (make_checks s (length chart) (length list)) (decode s) why (box_list_of (bound_size s) (decode s)) list e,
       );
     }
 
@@ -252,7 +254,7 @@ same_bytes c d chart₁ chart₂ m n l k p q = (
 )
 
 -- accepted sheets that behave alike have equal readings
-readings_same : (s t : List ℕ) → Bytes s → Bytes t → sheet_check s ≡ Fine → sheet_check t ≡ Fine → SameBehaviour s t
+readings_same : (s t : List ℕ) → Bytes s → Bytes t → sheet_check s ≡ Ok tt → sheet_check t ≡ Ok tt → SameBehaviour s t
     → (w : List ℕ) → Below (actions_of s) w → sheet_reading (decode s) w ≡ sheet_reading (decode t) w
 unfolding sheet_reading
 readings_same s t B D a b h w o = sheet_entries (decode s) (decode t) (accepted s B a) (accepted t D b) w (decode s).start (decode t).start (h.1 w o)
@@ -275,13 +277,13 @@ demand_3 s t chart₁ list₁ chart₂ list₂ B D =
     }
 
 -- the same of answers and buffers that are what the contracts say
-pub demand_2_of : (s chart list : List ℕ) {m : Made} {chart' list' : List ℕ} → Bytes s → m ≡ made s chart list → chart' ≡ chart_left s chart list → list' ≡ list_left s chart list
+pub demand_2_of : (s chart list : List ℕ) {m : Result ℕ Refusal} {chart' list' : List ℕ} → Bytes s → m ≡ made s chart list → chart' ≡ chart_left s chart list → list' ≡ list_left s chart list
     → Demand2 s m chart list chart' list'
-demand_2_of s chart list B p u v = subst (λ (x : Made × List ℕ × List ℕ). Demand2 s x.0 chart list x.1 x.2) (λ i. (sym p i, sym u i, sym v i)) (demand_2 s chart list B)
+demand_2_of s chart list B p u v = subst (λ (x : Result ℕ Refusal × List ℕ × List ℕ). Demand2 s x.0 chart list x.1 x.2) (λ i. (sym p i, sym u i, sym v i)) (demand_2 s chart list B)
 
-pub demand_3_of : (s t chart₁ list₁ chart₂ list₂ : List ℕ) {m₁ m₂ : Made} {chart₁' chart₂' : List ℕ} → Bytes s → Bytes t
+pub demand_3_of : (s t chart₁ list₁ chart₂ list₂ : List ℕ) {m₁ m₂ : Result ℕ Refusal} {chart₁' chart₂' : List ℕ} → Bytes s → Bytes t
     → m₁ ≡ made s chart₁ list₁ → m₂ ≡ made t chart₂ list₂ → chart₁' ≡ chart_left s chart₁ list₁ → chart₂' ≡ chart_left t chart₂ list₂
     → Demand3 s t m₁ m₂ chart₁ list₁ chart₂ list₂ chart₁' chart₂'
 demand_3_of s t chart₁ list₁ chart₂ list₂ B D p q u v =
-    subst (λ (x : Made × Made × List ℕ × List ℕ). Demand3 s t x.0 x.1 chart₁ list₁ chart₂ list₂ x.2 x.3) (λ i. (sym p i, sym q i, sym u i, sym v i))
+    subst (λ (x : Result ℕ Refusal × Result ℕ Refusal × List ℕ × List ℕ). Demand3 s t x.0 x.1 chart₁ list₁ chart₂ list₂ x.2 x.3) (λ i. (sym p i, sym q i, sym u i, sym v i))
     (demand_3 s t chart₁ list₁ chart₂ list₂ B D)

@@ -1,9 +1,11 @@
 -- What is claimed of the running code (the mission's demands 2 and 3). Statements alone; Proofs.antt has their proofs. Of one making: s has the sheet's bytes,
 -- of either version, m is the answer, chart and list are the lent buffers before the call, chart' and list' after it.
-use Rattle.std.specs.Prelude.{◌≡◌, ◌↔◌, List, ℕ, ◌+◌, ◌*◌, ◌≤◌, ◌<◌, T, length, get_or, take}
+use Rattle.std.specs.Prelude.{◌≡◌, ◌↔◌, List, ℕ, ◌+◌, ◌*◌, ◌≤◌, ◌<◌, T, length, get_or, take, Result, Ok, Err}
 use Rattle.systems.specs.System.{System, Reached, reading, Below}
 use Rattle.exploration.specs.Explored.{Many}
-use Rattle.answer_rules.specs.declared.Checked.TheVariants.{Fine}
+use Rattle.answer_rules.specs.declared.Reason.TheVariants.{Blocks}
+use Rattle.answer_rules.specs.declared.Refusal.{Refusal}
+use Rattle.answer_rules.specs.Refusal.{at}
 use Rattle.model.specs.Sheet.{Configuration, in_box, sheet_system, sheet_reading, Covered}
 use Rattle.model.specs.Blocks.{blocks, chart_of, box_list_of}
 use Rattle.model.specs.Chart.{chart_system}
@@ -15,12 +17,10 @@ use Rattle.sheet_rules.specs.Check.{sheet_check}
 use Rattle.sheet_rules.specs.RunSheet.{sheet_ran, sheet_left}
 use Rattle.chart.specs.Check.{chart_check}
 use Rattle.chart.specs.RunChart.{chart_ran, chart_left as runLeft}
-use Rattle.making_rules.specs.declared.Made.{Made}
-use Rattle.making_rules.specs.declared.Made.TheVariants.{Done, Refused}
 use Rattle.making_rules.specs.Making.{make_checks, made_by, written_by}
 
 -- what a making answers, and what the chart's buffer then holds
-abbrev pub made : List ℕ → List ℕ → List ℕ → Made
+abbrev pub made : List ℕ → List ℕ → List ℕ → Result ℕ Refusal
 made s chart list = made_by (make_checks s (length chart) (length list)) (decode s)
 
 abbrev pub chart_left : List ℕ → List ℕ → List ℕ → List ℕ
@@ -74,30 +74,30 @@ pub record BoxesRight (s : List ℕ) (n : ℕ) (chart list : List ℕ) : Type 0 
 
 -- Demand 2: chart and list are those of the minimal reachable graph, and more than 255 blocks are the only ground for refusing an accepted sheet in
 -- buffers that suffice.
-pub record Demand2 (s : List ℕ) (m : Made) (chart list chart' list' : List ℕ) : Type 0 where
+pub record Demand2 (s : List ℕ) (m : Result ℕ Refusal) (chart list chart' list' : List ℕ) : Type 0 where
   -- the chart that was made is accepted by the chart's check and is the chart of the sheet,
-  pub chart_accepted : (n : ℕ) → m ≡ Done n → chart_check (take (chart_length s n) chart') ≡ Fine
-  pub chart_right : (n : ℕ) → m ≡ Done n → ChartRight (decode s) × (take (chart_length s n) chart' ≡ chart_of (decode s))
+  pub chart_accepted : (n : ℕ) → m ≡ Ok n → chart_check (take (chart_length s n) chart') ≡ Ok tt
+  pub chart_right : (n : ℕ) → m ≡ Ok n → ChartRight (decode s) × (take (chart_length s n) chart' ≡ chart_of (decode s))
   -- and a run on it gives what the run on the sheet gives, for every sequence and buffer
-  pub runs_alike : (n : ℕ) → m ≡ Done n → (w entries : List ℕ)
+  pub runs_alike : (n : ℕ) → m ≡ Ok n → (w entries : List ℕ)
       → (chart_ran (take (chart_length s n) chart') w (length entries) ≡ sheet_ran s w (length entries))
       × (runLeft (take (chart_length s n) chart') w entries ≡ sheet_left s w entries)
   -- the listed boxes are the classes that are reached
-  pub boxes_right : (n : ℕ) → m ≡ Done n → BoxesRight s n chart' list'
+  pub boxes_right : (n : ℕ) → m ≡ Ok n → BoxesRight s n chart' list'
   -- readings of an accepted sheet with the same entries are equal: they have the same first barred index, or none
-  pub entries_tell : sheet_check s ≡ Fine → SheetEntries (decode s) (decode s)
+  pub entries_tell : sheet_check s ≡ Ok tt → SheetEntries (decode s) (decode s)
   -- the blocks are those of the minimal reachable graph
-  pub blocks_minimal : sheet_check s ≡ Fine → MinimalReachable (decode s)
+  pub blocks_minimal : sheet_check s ≡ Ok tt → MinimalReachable (decode s)
   -- an accepted sheet with at most 255 blocks is made in buffers that suffice for them, and the answer is their number;
-  pub made_few : sheet_check s ≡ Fine → block_count s ≤ 255 → Suffices s (block_count s) chart list → m ≡ Done (block_count s)
+  pub made_few : sheet_check s ≡ Ok tt → block_count s ≤ 255 → Suffices s (block_count s) chart list → m ≡ Ok (block_count s)
   -- nothing else is made
-  pub made_only : (n : ℕ) → m ≡ Done n → (n ≡ block_count s) × (sheet_check s ≡ Fine) × (block_count s ≤ 255) × Suffices s (block_count s) chart list
+  pub made_only : (n : ℕ) → m ≡ Ok n → (n ≡ block_count s) × (sheet_check s ≡ Ok tt) × (block_count s ≤ 255) × Suffices s (block_count s) chart list
   -- an accepted sheet that is refused though the buffers suffice is refused 9, which asks nothing of the buffers, and then there are 256 reached
   -- configurations, no two of which read alike
-  pub only_ground : sheet_check s ≡ Fine → (block_count s ≤ 255 → Suffices s (block_count s) chart list) → (number returned : ℕ) → m ≡ Refused number returned
-      → (number ≡ 9) × (returned ≡ 0) × Many (system_of s) (decode s).start 256
+  pub only_ground : sheet_check s ≡ Ok tt → (block_count s ≤ 255 → Suffices s (block_count s) chart list) → (why : Refusal) → m ≡ Err why
+      → (why ≡ at Blocks 0) × Many (system_of s) (decode s).start 256
   -- any refusal leaves both buffers as they were
-  pub refused_unchanged : (number returned : ℕ) → m ≡ Refused number returned → (chart' ≡ chart) × (list' ≡ list)
+  pub refused_unchanged : (why : Refusal) → m ≡ Err why → (chart' ≡ chart) × (list' ≡ list)
 
 -- the bytes of a chart of n₁ blocks and of one of n₂, at the front of their buffers, are equal in length and byte by byte
 abbrev pub ChartsEqual : List ℕ → ℕ → List ℕ → List ℕ → ℕ → List ℕ → Type 0
@@ -113,9 +113,9 @@ SameBarred s t = (w : List ℕ) → Below (actions_of s) w → (sheet_reading (d
 
 -- Demand 3, of two makings: accepted sheets of either version, or one of each, with at most 255 blocks each, in buffers that suffice, whatever these held,
 -- are both made, and the chart bytes are equal just when the sheets behave alike. Accepted sheets that behave alike have the same actions barred first.
-pub record Demand3 (s t : List ℕ) (m₁ m₂ : Made) (chart₁ list₁ chart₂ list₂ chart₁' chart₂' : List ℕ) : Type 0 where
-  pub equal_charts : sheet_check s ≡ Fine → sheet_check t ≡ Fine
+pub record Demand3 (s t : List ℕ) (m₁ m₂ : Result ℕ Refusal) (chart₁ list₁ chart₂ list₂ chart₁' chart₂' : List ℕ) : Type 0 where
+  pub equal_charts : sheet_check s ≡ Ok tt → sheet_check t ≡ Ok tt
       → block_count s ≤ 255 → block_count t ≤ 255
       → Suffices s (block_count s) chart₁ list₁ → Suffices t (block_count t) chart₂ list₂
-      → (m₁ ≡ Done (block_count s)) × (m₂ ≡ Done (block_count t)) × (ChartsEqual s (block_count s) chart₁' t (block_count t) chart₂' ↔ SameBehaviour s t)
-  pub equal_barred : sheet_check s ≡ Fine → sheet_check t ≡ Fine → SameBehaviour s t → SameBarred s t
+      → (m₁ ≡ Ok (block_count s)) × (m₂ ≡ Ok (block_count t)) × (ChartsEqual s (block_count s) chart₁' t (block_count t) chart₂' ↔ SameBehaviour s t)
+  pub equal_barred : sheet_check s ≡ Ok tt → sheet_check t ≡ Ok tt → SameBehaviour s t → SameBarred s t

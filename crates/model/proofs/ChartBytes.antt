@@ -1,7 +1,6 @@
 -- The fields of a sheet's chart, read back from its bytes, and that the fields determine the bytes.
-use Rattle.std.specs.Prelude.{◌≡◌, refl, ◌↔◌, List, [], ◌∷◌, ◌++◌, ℕ, zero, suc, ◌+◌, ◌*◌, ◌-◌, ◌/◌, ◌%◌, ◌≤◌, ◌<◌, length, get_or, take, drop}
+use Rattle.std.specs.Prelude.{◌≡◌, refl, ◌↔◌, List, [], ◌∷◌, ◌++◌, ℕ, zero, suc, ◌+◌, ◌*◌, ◌-◌, ◌/◌, ◌%◌, ◌≤◌, ◌<◌, length, get_or, take, drop, Option, Some, None}
 use Rattle.std.proofs.Common.{sym, ap, subst, ◌∙◌, append_assoc, append-nil, mul-le-mul_right, mod-lt, div-add-mod', lt_of_mul-lt-mul_right, arith, length-append, length-drop, get_or-append-add, get_or-take, get_or-drop, ext_get_or}
-use Rattle.std.proofs.Math.Option.{Option, some, none}
 use Rattle.std.proofs.Math.Decide.{dec_lt}
 use Rattle.std.proofs.Math.ListN.{get_or-append}
 use Rattle.std.proofs.Math.Seq.{drop-append-add}
@@ -99,8 +98,8 @@ chart_of_target s i a h b =
 
 target_lt : (s : Sheet) → length (blocks s) ≤ 255 → (o : Option Configuration) → target_byte s o < 256
 unfolding target_byte
-target_lt s few none = omega arith
-target_lt s few (some y) = omega (arith, place_le (same_class s) (blocks s) y)
+target_lt s few None = omega arith
+target_lt s few (Some y) = omega (arith, place_le (same_class s) (blocks s) y)
 
 -- the chart's bytes are bytes
 pub chart_of_bytes : (s : Sheet) → WellFormed s → length (blocks s) ≤ 255 → Bytes (chart_of s)

@@ -1,8 +1,7 @@
 -- Two sheets have the same chart exactly where they have as many actions and read the same from their starts.
-use Rattle.std.specs.Prelude.{◌≡◌, refl, ◌↔◌, List, ℕ, ◌≤◌, ◌<◌, length, get_or}
+use Rattle.std.specs.Prelude.{◌≡◌, refl, ◌↔◌, List, ℕ, ◌≤◌, ◌<◌, length, get_or, Option, Some, None, option_map}
 use Rattle.std.proofs.Math.Path.{sym, ap, subst}
 use Rattle.std.proofs.Common.{◌∙◌, arith}
-use Rattle.std.proofs.Math.Option.{Option, some, none, map}
 use Rattle.exploration.specs.Exploration.{explore, place}
 use Rattle.systems.specs.System.{Alike, Below}
 use Rattle.systems.proofs.Alike.{alike_below, alike_label}
@@ -18,10 +17,10 @@ use Rattle.model.proofs.ChartBytes.{same_entries}
 use Rattle.model.proofs.ChartRules.{chart_reading_lem}
 use Rattle.model.specs.ChartEquality.{byte_of}
 
-pub byte_of_place : (s : Sheet) (o : Option Configuration) → target_byte s o ≡ byte_of (map (place (same_class s) (blocks s)) o)
+pub byte_of_place : (s : Sheet) (o : Option Configuration) → target_byte s o ≡ byte_of (option_map (place (same_class s) (blocks s)) o)
 unfolding target_byte byte_of
-byte_of_place s none = refl
-byte_of_place s (some y) = refl
+byte_of_place s None = refl
+byte_of_place s (Some y) = refl
 
 module _ (s t : Sheet) (W : WellFormed s) (V# : WellFormed t) (e : s.actions ≡ t.actions) where
   explorable : Explorable (sheet_system t) (same_class t) s.actions t.start (Covered t)
@@ -38,13 +37,13 @@ module _ (s t : Sheet) (W : WellFormed s) (V# : WellFormed t) (e : s.actions ≡
       (sheet_explorable s W) explorable h 255)
 
   places_alike : Alike (sheet_system s) (sheet_system t) s.start t.start → (i a : ℕ) → i < length (blocks s)
-      → map (place (same_class s) (blocks s)) (step s a (block_at s i)) ≡ map (place (same_class t) (blocks t)) (step t a (block_at t i))
+      → option_map (place (same_class s) (blocks s)) (step s a (block_at s i)) ≡ option_map (place (same_class t) (blocks t)) (step t a (block_at t i))
   unfolding blocks sheet_system
   places_alike h i a b =
       subst
       (λ (n : ℕ).
-      map (place (same_class s) (blocks s)) (step s a (block_at s i))
-      ≡ map
+      option_map (place (same_class s) (blocks s)) (step s a (block_at s i))
+      ≡ option_map
       (place (same_class t) (explore (sheet_system t) (same_class t) n t.start 255))
       (step t a (get_or (explore (sheet_system t) (same_class t) n t.start 255) i t.start)))
       e

@@ -1,9 +1,8 @@
 -- A sheet's chart obeys the chart rules, and what is read on it is what is read on the sheet.
-use Rattle.std.specs.Prelude.{◌≡◌, ◌↔◌, ◌⊎◌, List, get_or}
+use Rattle.std.specs.Prelude.{◌≡◌, ◌↔◌, ◌⊎◌, List, get_or, Option, Some, None, option_map}
 use Rattle.std.proofs.Math.Path.{refl, sym, ap, subst}
 use Rattle.std.proofs.Common.{◌∙◌, eq-eqb, ne_eqb}
 use Rattle.std.proofs.Math.Logic.{inl, inr}
-use Rattle.std.proofs.Math.Option.{Option, some, none, map}
 use Prim.Native.Nat.{ℕ, zero, suc, max, ◌≤◌, ◌<◌}
 use Rattle.std.proofs.Math.Decide.{dec_lt, ℕ_discrete}
 use native.Mathlib.Omega.{arith}
@@ -39,43 +38,43 @@ next_named m t h b = go (ℕ_discrete t m)
     go (yes e) = rw (ne_eqb t 255 (omega arith), eq-eqb t m e, next_after) (omega arith)
     go (no n) = rw (ne_eqb t 255 (omega arith), ne_eqb t m n, next_after) (omega arith)
 
-both_same : {X : Type 0} {R : X → X → Type 0} (o : Option X) → ((x : X) → o ≡ some x → R x x) → Both R o o
-both_same none f = both_barred
-both_same (some x) f = both_open (f x refl)
+both_same : {X : Type 0} {R : X → X → Type 0} (o : Option X) → ((x : X) → o ≡ Some x → R x x) → Both R o o
+both_same None f = both_barred
+both_same (Some x) f = both_open (f x refl)
 
 -- configurations of one region have the same actions barred
-barred_alike : (s : Sheet) (a : ℕ) (x y : Configuration) → region_of s x ≡ region_of s y → step s a x ≡ none → step s a y ≡ none
+barred_alike : (s : Sheet) (a : ℕ) (x y : Configuration) → region_of s x ≡ region_of s y → step s a x ≡ None → step s a y ≡ None
 unfolding step moved
 barred_alike s a x y e p = go (get_or (region_of s x).moves a Barred) (get_or (region_of s y).moves a Barred) (ap (λ (r : Region). get_or r.moves a Barred) e) p
   where
-    go : (m n : Move) → m ≡ n → moved m x ≡ none → moved n y ≡ none
+    go : (m n : Move) → m ≡ n → moved m x ≡ None → moved n y ≡ None
     go m Barred q r = refl
     go Barred (Open t rs) q r = let z : ◌≡◌ {A = ℕ} 0 1 = cc in absurd (omega arith)
     go (Open u qs) (Open t rs) q r = let z : ◌≡◌ {A = ℕ} 0 1 = cc in absurd (omega arith)
 
 module _ (s : Sheet) (W : WellFormed s) (few : length (blocks s) ≤ 255) where
   -- an open action of a block leads to a block
-  pub place_lt : (i a : ℕ) (y : Configuration) → i < length (blocks s) → step s a (block_at s i) ≡ some y → place (same_class s) (blocks s) y < length (blocks s)
+  pub place_lt : (i a : ℕ) (y : Configuration) → i < length (blocks s) → step s a (block_at s i) ≡ Some y → place (same_class s) (blocks s) y < length (blocks s)
   unfolding blocks sheet_system
   place_lt i a y h e = step_known (sheet_system s) (same_class s) s.actions s.start (Covered s) (sheet_explorable s W) 255 i a y (omega arith) h e
 
   -- a step on the chart is the place of the step on the sheet
-  pub chart_step_lem : (a i : ℕ) → i < length (blocks s) → chart_step (chart_of s) a i ≡ map (place (same_class s) (blocks s)) (step s a (block_at s i))
+  pub chart_step_lem : (a i : ℕ) → i < length (blocks s) → chart_step (chart_of s) a i ≡ option_map (place (same_class s) (blocks s)) (step s a (block_at s i))
   unfolding target_byte
   chart_step_lem a i h = go (dec_lt a s.actions)
     where
-      one : (o : Option Configuration) → step s a (block_at s i) ≡ o → block_named (target_byte s o) ≡ map (place (same_class s) (blocks s)) o
-      one none e = named_barred 255 refl
-      one (some y) e = named_block (place (same_class s) (blocks s) y) (omega (arith, place_lt i a y h e))
+      one : (o : Option Configuration) → step s a (block_at s i) ≡ o → block_named (target_byte s o) ≡ option_map (place (same_class s) (blocks s)) o
+      one None e = named_barred 255 refl
+      one (Some y) e = named_block (place (same_class s) (blocks s) y) (omega (arith, place_lt i a y h e))
 
-      go : Dec (a < s.actions) → chart_step (chart_of s) a i ≡ map (place (same_class s) (blocks s)) (step s a (block_at s i))
+      go : Dec (a < s.actions) → chart_step (chart_of s) a i ≡ option_map (place (same_class s) (blocks s)) (step s a (block_at s i))
       go (yes b) =
           chart_step_in (chart_of s) a i (subst (λ (n : ℕ). a < n) (sym (chart_of_actions s)) b)
           ∙ ap block_named (chart_of_target s i a h b)
           ∙ one (step s a (block_at s i)) refl
       go (no b) =
           chart_step_out (chart_of s) a i (omega (arith, chart_of_actions s))
-          ∙ sym (ap (map (place (same_class s) (blocks s))) (step_bounded s W a (omega arith) (block_at s i)))
+          ∙ sym (ap (option_map (place (same_class s) (blocks s))) (step_bounded s W a (omega arith) (block_at s i)))
 
   -- Each block of the sheet is equivalent to its number on the chart.
   pub block_alike : (i : ℕ) → i < length (blocks s) → Alike (sheet_system s) (chart_system (chart_of s)) (block_at s i) i
@@ -104,21 +103,21 @@ module _ (s : Sheet) (W : WellFormed s) (few : length (blocks s) ≤ 255) where
           (λ k e. (quotient_closed (sheet_system s) (same_class s) s.actions s.start (Covered s) (sheet_explorable s W) 255 few a i k r.0 e, refl)))
 
   -- the byte of a target, and when it says barred
-  target_barred : (i a : ℕ) → i < length (blocks s) → a < s.actions → (target_of (chart_of s) i a ≡ 255) ↔ (step s a (block_at s i) ≡ none)
+  target_barred : (i a : ℕ) → i < length (blocks s) → a < s.actions → (target_of (chart_of s) i a ≡ 255) ↔ (step s a (block_at s i) ≡ None)
   unfolding target_byte
   target_barred i a h b = (λ e. to (step s a (block_at s i)) refl (sym (chart_of_target s i a h b) ∙ e), λ e. chart_of_target s i a h b ∙ ap (target_byte s) e)
     where
-      to : (o : Option Configuration) → step s a (block_at s i) ≡ o → target_byte s o ≡ 255 → o ≡ none
-      to none q e = refl
-      to (some y) q e = absurd (omega (arith, place_lt i a y h q))
+      to : (o : Option Configuration) → step s a (block_at s i) ≡ o → target_byte s o ≡ 255 → o ≡ None
+      to None q e = refl
+      to (Some y) q e = absurd (omega (arith, place_lt i a y h q))
 
   pub chart_targets : TargetsRight (chart_of s)
   unfolding chart_of target_byte
   chart_targets i a h b = go (step s a (block_at s i)) refl
     where
       go : (o : Option Configuration) → step s a (block_at s i) ≡ o → (target_of (chart_of s) i a < length (blocks s)) ⊎ (target_of (chart_of s) i a ≡ 255)
-      go none e = inr ((target_barred i a h b).1 e)
-      go (some y) e = inl (let q = chart_of_target s i a h b ∙ ap (target_byte s) e in omega (arith, place_lt i a y h e))
+      go None e = inr ((target_barred i a h b).1 e)
+      go (Some y) e = inl (let q = chart_of_target s i a h b ∙ ap (target_byte s) e in omega (arith, place_lt i a y h e))
 
   -- before action a of block i the chart has named as many blocks as the exploration had found
   next_in_lem : (i : ℕ) → i < length (blocks s) → next_unnamed (chart_of s) i ≡ length (explore (sheet_system s) (same_class s) s.actions s.start i)
@@ -135,9 +134,9 @@ module _ (s : Sheet) (W : WellFormed s) (few : length (blocks s) ≤ 255) where
       n : ℕ
       n = length (seen (sheet_system s) (same_class s) s.actions s.start i a)
 
-      one : (o : Option Configuration) → step s a (block_at s i) ≡ o → next_after n (target_byte s o) ≡ grown n (map (place (same_class s) (blocks s)) o)
-      one none q = next_barred n
-      one (some y) q =
+      one : (o : Option Configuration) → step s a (block_at s i) ≡ o → next_after n (target_byte s o) ≡ grown n (option_map (place (same_class s) (blocks s)) o)
+      one None q = next_barred n
+      one (Some y) q =
           next_named n (place (same_class s) (blocks s) y) (omega (arith, place_lt i a y h q))
           (step_named (sheet_system s) (same_class s) s.actions s.start (Covered s) (sheet_explorable s W) 255 i a y (omega arith) h q)
 
@@ -161,8 +160,8 @@ module _ (s : Sheet) (W : WellFormed s) (few : length (blocks s) ≤ 255) where
     where
       go : (o : Option Configuration) → step s a (block_at s i) ≡ o
           → (target_of (chart_of s) i a ≡ 255) ⊎ (target_of (chart_of s) i a ≤ next_in (chart_of s) i (next_unnamed (chart_of s) i) a)
-      go none e = inl ((target_barred i a h b).1 e)
-      go (some y) e =
+      go None e = inl ((target_barred i a h b).1 e)
+      go (Some y) e =
           let q = chart_of_target s i a h b ∙ ap (target_byte s) e in
           let p = step_named (sheet_system s) (same_class s) s.actions s.start (Covered s) (sheet_explorable s W) 255 i a y (omega arith) h e in
           inr (omega (arith, next_in_lem i h (next_unnamed_lem i (omega arith)) a (omega arith)))

@@ -1,8 +1,7 @@
 -- The class theorem: the class box of a configuration holds what is covered and equivalent to it, for sequences of whatever length.
-use Rattle.std.specs.Prelude.{◌≡◌, refl, ◌↔◌, ℕ, ◌≤◌, length, get_or}
+use Rattle.std.specs.Prelude.{◌≡◌, refl, ◌↔◌, ℕ, ◌≤◌, length, get_or, None}
 use Rattle.std.proofs.Common.{sym, ap, ◌∙◌, arith}
 use Rattle.std.proofs.Math.Path.{subst}
-use Rattle.std.proofs.Math.Option.{none}
 use Rattle.std.proofs.Math.Decide.{dec_lt}
 use Rattle.std.proofs.Math.Dec.{T}
 use Rattle.std.proofs.Math.ListN.{get_or-eq_default}
@@ -22,11 +21,11 @@ use Rattle.model.proofs.Finite.{listing_mem, length_listing}
 use Rattle.model.specs.ClassTheorem.{ClassFits}
 
 -- an action past the sheet's number is barred
-pub step_bounded : (s : Sheet) → WellFormed s → (a : ℕ) → s.actions ≤ a → (x : Configuration) → step s a x ≡ none
+pub step_bounded : (s : Sheet) → WellFormed s → (a : ℕ) → s.actions ≤ a → (x : Configuration) → step s a x ≡ None
 unfolding step region_of moved
 step_bounded s W a h x = go (dec_lt (region_number s x) (length s.regions))
   where
-    go : Dec (Covered s x) → moved (get_or (region_of s x).moves a Barred) x ≡ none
+    go : Dec (Covered s x) → moved (get_or (region_of s x).moves a Barred) x ≡ None
     go (yes c) = let R = region_fits s W x c in ap (λ (m : Move). moved m x) (get_or-eq_default (region_of s x).moves Barred (omega arith))
     go (no c) = ap (λ (r : Region). moved (get_or r.moves a Barred) x) (get_or-eq_default s.regions nowhere (omega arith))
 

@@ -1,8 +1,7 @@
 -- Class boxes are the classes: what the box of depth k holds is what no sequence of at most k actions tells apart.
-use Rattle.std.specs.Prelude.{◌≡◌, refl, ◌↔◌, Bool, true, false, List, [], ◌∷◌, T, length, get_or}
+use Rattle.std.specs.Prelude.{◌≡◌, refl, ◌↔◌, Bool, true, false, List, [], ◌∷◌, T, length, get_or, Option, Some}
 use Rattle.std.proofs.Common.{sym, ap, ◌∙◌, ⊎_elim, not-suc-le-zero, le_of_suc-le-suc, eq-or-lt_of_le}
 use Rattle.std.proofs.Math.Path.{subst}
-use Rattle.std.proofs.Math.Option.{Option, some}
 use Prim.Native.Nat.{ℕ, zero, suc, ◌≤◌, ◌<◌}
 use native.Mathlib.Omega.{arith}
 use Rattle.std.proofs.Math.Decide.{dec_lt}
@@ -98,7 +97,7 @@ label_number s W x y h k = (
     go e (no l) (no m) = omega arith
 
 -- related steps stay related by what follows from the relation at the steps' own ends
-both_imp : {X Y : Type 0} {R S : X → Y → Type 0} (o : Option X) (u : Option Y) → ((x : X) (y : Y) → o ≡ some x → u ≡ some y → R x y → S x y) → Both R o u → Both S o u
+both_imp : {X Y : Type 0} {R S : X → Y → Type 0} (o : Option X) (u : Option Y) → ((x : X) (y : Y) → o ≡ Some x → u ≡ Some y → R x y → S x y) → Both R o u → Both S o u
 both_imp o u f both_barred = both_barred
 both_imp o u f (both_open {x = x} {y = y} r) = both_open (f x y refl refl r)
 
@@ -129,7 +128,7 @@ moves_cons x y m moves b f (suc a) = f a
 -- A narrowed box holds what is in the box and lands, by each open move, in the box of where the move takes x.
 pub narrowed_exact : {V# : ℕ} (boxOf : Configuration → Box) (x y : Configuration) (moves : List Move) (b : Box)
     → Each (MoveFits V#) moves → length b.ranges ≡ V# → 1 ≤ V#
-    → ((a : ℕ) (x' : Configuration) → moved (get_or moves a Barred) x ≡ some x' → length (boxOf x').ranges ≡ V#)
+    → ((a : ℕ) (x' : Configuration) → moved (get_or moves a Barred) x ≡ Some x' → length (boxOf x').ranges ≡ V#)
     → T (in_box (narrowed boxOf x moves b) y) ↔ (T (in_box b y) × MovesBoth (λ x' y'. T (in_box (boxOf x') y')) x y moves)
 unfolding narrowed moved
 narrowed_exact boxOf x y [] b f e h g = (λ t. (t, λ a. both_barred), λ p. p.0)
@@ -145,7 +144,7 @@ narrowed_exact boxOf x y (Open target rules ∷ moves) b (each_more (open_fits l
       λ (u, k). i.1 (p.1 (u, opened (k zero)), λ a. k (suc a)),
     )
   where
-    opened : {x' y' : Configuration} → Both (λ x' y'. T (in_box (boxOf x') y')) (some x') (some y') → T (in_box (boxOf x') y')
+    opened : {x' y' : Configuration} → Both (λ x' y'. T (in_box (boxOf x') y')) (Some x') (Some y') → T (in_box (boxOf x') y')
     opened (both_open c) = c
 
 module _ (s : Sheet) (W : WellFormed s) where
@@ -204,7 +203,7 @@ module _ (s : Sheet) (W : WellFormed s) where
       let p = alike_to_suc (region_system s) (region_system s) k x y in
       let q = alike_to_suc (sheet_system s) (sheet_system s) k x y in
       let n = label_number s W x y h c in
-      let i : (a : ℕ) (x' y' : Configuration) → step s a x ≡ some x' → step s a y ≡ some y'
+      let i : (a : ℕ) (x' y' : Configuration) → step s a x ≡ Some x' → step s a y ≡ Some y'
       → AlikeTo k (region_system s) (region_system s) x' y' ↔ AlikeTo k (sheet_system s) (sheet_system s) x' y' =
       λ a x' y' d e. traces_readings k x' y' (W.moves_land x x' a h d) (W.moves_land y y' a c e) in (
         λ t. let (e, b) = p.0 t in q.1 (n.1 e, λ a. both_imp (step s a x) (step s a y) (λ x' y' d f r. (i a x' y' d f).0 r) (b a)),

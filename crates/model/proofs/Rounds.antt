@@ -1,10 +1,9 @@
 -- Rounds of refinement on a chart: what they tell after each round, when they settle, and sequences that tell blocks apart.
-use Rattle.std.specs.Prelude.{◌≡◌, ◌↔◌, ◌⊎◌, Bool, false, not, ◌&&◌}
+use Rattle.std.specs.Prelude.{◌≡◌, ◌↔◌, ◌⊎◌, Bool, false, not, ◌&&◌, Option, Some, None}
 use Rattle.std.proofs.Math.Path.{refl}
 use Rattle.std.proofs.Common.{sym, ap, subst, ◌∙◌, not-suc-le-zero, arith, lt-ltb, le-ltb, eq-eqb, ne_eqb}
 use Rattle.std.proofs.Math.Logic.{inl, inr, ⊎_elim}
 use mathlib.Core.List.{List, [], ◌∷◌}
-use Rattle.std.proofs.Math.Option.{Option, some, none}
 use Prim.Native.Nat.{ℕ, zero, suc, ◌+◌, ◌≤◌, ◌<◌}
 use Rattle.std.proofs.Math.Decide.{dec_lt, le_ind, ℕ_discrete}
 use Rattle.std.proofs.Math.Dec.{T, eqb}
@@ -22,15 +21,15 @@ use Rattle.model.specs.ChartDepth.{same_round, parts, label_count, ApartIn}
 use Rattle.model.specs.Rounds.{TargetsRight, Tells, Quiet, Parted}
 
 -- the block that a target names
-pub named_barred : (t : ℕ) → t ≡ 255 → block_named t ≡ none
+pub named_barred : (t : ℕ) → t ≡ 255 → block_named t ≡ None
 unfolding block_named
 named_barred t e = rw (eq-eqb t 255 e, block_named)
 
-named_open : (t : ℕ) → (t ≡ 255 → ⊥) → block_named t ≡ some t
+named_open : (t : ℕ) → (t ≡ 255 → ⊥) → block_named t ≡ Some t
 unfolding block_named
 named_open t n = rw (ne_eqb t 255 n, block_named)
 
-pub named_block : (t : ℕ) → t < 255 → block_named t ≡ some t
+pub named_block : (t : ℕ) → t < 255 → block_named t ≡ Some t
 named_block t h = named_open t (λ e. omega arith)
 
 -- the chart's step, for its actions and past them
@@ -38,15 +37,15 @@ pub chart_step_in : (c : List ℕ) (a i : ℕ) → a < actions_of c → chart_st
 unfolding chart_step
 chart_step_in c a i h = rw (lt-ltb a (actions_of c) h, chart_step)
 
-pub chart_step_out : (c : List ℕ) (a i : ℕ) → actions_of c ≤ a → chart_step c a i ≡ none
+pub chart_step_out : (c : List ℕ) (a i : ℕ) → actions_of c ≤ a → chart_step c a i ≡ None
 unfolding chart_step
 chart_step_out c a i h = rw (le-ltb a (actions_of c) h, chart_step)
 
 -- a step to a block is the byte of the target, and back
-pub step_target : (c : List ℕ) (a i k : ℕ) → chart_step c a i ≡ some k → (a < actions_of c) × (target_of c i a ≡ k)
+pub step_target : (c : List ℕ) (a i k : ℕ) → chart_step c a i ≡ Some k → (a < actions_of c) × (target_of c i a ≡ k)
 step_target c a i k e = go (dec_lt a (actions_of c))
   where
-    named : (t : ℕ) → block_named t ≡ some k → Dec (t ≡ 255) → t ≡ k
+    named : (t : ℕ) → block_named t ≡ Some k → Dec (t ≡ 255) → t ≡ k
     named t q (yes b) = let p = named_barred t b in let z : ◌≡◌ {A = ℕ} 0 1 = cc in absurd (omega arith)
     named t q (no b) = let p = named_open t b in cc
 
@@ -54,7 +53,7 @@ step_target c a i k e = go (dec_lt a (actions_of c))
     go (yes h) = (h, named (target_of c i a) (sym (chart_step_in c a i h) ∙ e) (ℕ_discrete (target_of c i a) 255))
     go (no h) = let q = chart_step_out c a i (omega arith) in let z : ◌≡◌ {A = ℕ} 0 1 = cc in absurd (omega arith)
 
-pub target_step : (c : List ℕ) (a i k : ℕ) → a < actions_of c → target_of c i a ≡ k → k < 255 → chart_step c a i ≡ some k
+pub target_step : (c : List ℕ) (a i k : ℕ) → a < actions_of c → target_of c i a ≡ k → k < 255 → chart_step c a i ≡ Some k
 target_step c a i k h e l = chart_step_in c a i h ∙ ap block_named e ∙ named_block k l
 
 -- the test of two targets, by what they are
@@ -70,10 +69,10 @@ same_barred : (f : ℕ → ℕ) (t u : ℕ) → t ≡ 255 → same_target f t u 
 unfolding same_target
 same_barred f t u h = rw (eq-eqb t 255 h, same_target)
 
-open_barred : {X Y : Type 0} {R : X → Y → Type 0} {x : X} → Both R (some x) none → ⊥
+open_barred : {X Y : Type 0} {R : X → Y → Type 0} {x : X} → Both R (Some x) None → ⊥
 open_barred b = elim b [ ]
 
-barred_open : {X Y : Type 0} {R : X → Y → Type 0} {y : Y} → Both R none (some y) → ⊥
+barred_open : {X Y : Type 0} {R : X → Y → Type 0} {y : Y} → Both R None (Some y) → ⊥
 barred_open b = elim b [ ]
 
 -- where f tells R for the numbers below n, the test of two targets tells it for what they name
@@ -83,7 +82,7 @@ target_tells f n R few e t u (inl h) (inl g) =
     rw (same_open f t u (omega arith) (omega arith), named_block t (omega arith), named_block u (omega arith))
     (λ p. both_open ((e t u h g).0 ((eqb_tells (f t) (f u)).0 p)), λ b. (eqb_tells (f t) (f u)).1 ((e t u h g).1 (opened b)))
   where
-    opened : Both R (some t) (some u) → R t u
+    opened : Both R (Some t) (Some u) → R t u
     opened (both_open r) = r
 target_tells f n R few e t u (inl h) (inr g) =
     rw (same_left f t u (omega arith) g, named_block t (omega arith), named_barred u g) (λ p. absurd p, open_barred)
@@ -251,10 +250,10 @@ module _ (c : List ℕ) (few : blocks_of c ≤ 255) (right : TargetsRight c) whe
       }
 
   -- a step from a block leads to a block
-  pub chart_closed : (a i j : ℕ) → i < blocks_of c → chart_step c a i ≡ some j → j < blocks_of c
+  pub chart_closed : (a i j : ℕ) → i < blocks_of c → chart_step c a i ≡ Some j → j < blocks_of c
   chart_closed a i j h e = go (dec_lt a (actions_of c))
     where
-      target : (target_of c i a < blocks_of c) ⊎ (target_of c i a ≡ 255) → block_named (target_of c i a) ≡ some j → j < blocks_of c
+      target : (target_of c i a < blocks_of c) ⊎ (target_of c i a ≡ 255) → block_named (target_of c i a) ≡ Some j → j < blocks_of c
       target (inl g) n = let q = named_block (target_of c i a) (omega arith) in let e' : target_of c i a ≡ j = cc in omega arith
       target (inr g) n = let q = named_barred (target_of c i a) g in let z : ◌≡◌ {A = ℕ} 0 1 = cc in absurd (omega arith)
 
@@ -353,8 +352,8 @@ module _ (c : List ℕ) (few : blocks_of c ≤ 255) (right : TargetsRight c) whe
     where
       go : (o u : Option ℕ) → chart_step c a i ≡ o → chart_step c a j ≡ u
           → Both (AlikeTo k (chart_system c) (chart_system c)) (chart_step c a i) (chart_step c a j) ⊎ ApartIn c (suc k) i j
-      go none none p q = inl (rw (p, q) both_barred)
-      go (some x) none p q =
+      go None None p q = inl (rw (p, q) both_barred)
+      go (Some x) None p q =
           inr
           (record {
             sequence = a ∷ [];
@@ -362,7 +361,7 @@ module _ (c : List ℕ) (few : blocks_of c ≤ 255) (right : TargetsRight c) whe
             short = omega arith;
             differs = λ e. barred_differs (chart_system c) (chart_system c) a [] i j x p q e;
           })
-      go none (some y) p q =
+      go None (Some y) p q =
           inr
           (record {
             sequence = a ∷ [];
@@ -370,7 +369,7 @@ module _ (c : List ℕ) (few : blocks_of c ≤ 255) (right : TargetsRight c) whe
             short = omega arith;
             differs = λ e. barred_differs (chart_system c) (chart_system c) a [] j i y q p (sym e);
           })
-      go (some x) (some y) p q =
+      go (Some x) (Some y) p q =
           ⊎_elim
           (λ r. inl (rw (p, q) (both_open r)))
           (λ d.

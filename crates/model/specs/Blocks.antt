@@ -1,7 +1,6 @@
 -- Equivalence classes as boxes, the blocks of a sheet in the chart's order, and the bytes of its chart and box list (document 01, "The chart, mark BCH, and
 -- its box list"). Definitions only.
-use Rattle.std.specs.Prelude.{Bool, true, false, List, [], ◌∷◌, ◌++◌, ℕ, zero, suc, ◌+◌, ◌*◌, eqb, ltb, length, get_or, set, ℤ, pos}
-use Rattle.std.proofs.Math.Option.{Option, some, none}
+use Rattle.std.specs.Prelude.{Bool, true, false, List, [], ◌∷◌, ◌++◌, ℕ, zero, suc, ◌+◌, ◌*◌, eqb, ltb, length, get_or, set, ℤ, pos, Option, Some, None}
 use Rattle.integers.specs.declared.Range.{Range}
 use Rattle.integers.specs.Range.{contains, meet, size}
 use Rattle.integers.specs.Inverse.{inverse}
@@ -87,8 +86,8 @@ block_at s i = get_or (blocks s) i s.start
 
 -- the byte of a target: 255 for barred, or the block's number
 unfoldable pub target_byte : Sheet → Option Configuration → ℕ
-target_byte s none = 255
-target_byte s (some y) = place (same_class s) (blocks s) y
+target_byte s None = 255
+target_byte s (Some y) = place (same_class s) (blocks s) y
 
 -- a block's record in the chart: label, then a target for each action
 unfoldable pub chart_record : Sheet → ℕ → List ℕ

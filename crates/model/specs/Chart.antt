@@ -1,6 +1,5 @@
 -- A chart as bytes: its fields, what is read on it, the chart rules of document 01 and rounds of refinement. Definitions only.
-use Rattle.std.specs.Prelude.{◌≡◌, ◌↔◌, ◌⊎◌, Bool, true, false, not, ◌&&◌, List, ℕ, zero, suc, ◌+◌, ◌*◌, ◌≤◌, ◌<◌, eqb, ltb, length, get_or, take}
-use Rattle.std.proofs.Math.Option.{Option, some, none}
+use Rattle.std.specs.Prelude.{◌≡◌, ◌↔◌, ◌⊎◌, Bool, true, false, not, ◌&&◌, List, ℕ, zero, suc, ◌+◌, ◌*◌, ◌≤◌, ◌<◌, eqb, ltb, length, get_or, take, Option, Some, None}
 use Rattle.integers.specs.LittleEndian.{unsigned_at}
 use Rattle.systems.specs.Search.{all, least}
 use Rattle.systems.specs.System.{System, Reading, reading, Below}
@@ -26,11 +25,11 @@ target_of c i a = get_or c (record_at c i + 2 + a) 0
 
 -- the block that a target byte names, if it names one
 unfoldable pub block_named : ℕ → Option ℕ
-block_named t = elim (eqb t 255) [ true ↦ none | false ↦ some t ]
+block_named t = elim (eqb t 255) [ true ↦ None | false ↦ Some t ]
 
 -- an action past the chart's number is barred
 unfoldable pub chart_step : List ℕ → ℕ → ℕ → Option ℕ
-chart_step c a i = elim (ltb a (actions_of c)) [ true ↦ block_named (target_of c i a) | false ↦ none ]
+chart_step c a i = elim (ltb a (actions_of c)) [ true ↦ block_named (target_of c i a) | false ↦ None ]
 
 -- The chart's transition system: its configurations are the block numbers.
 unfoldable pub chart_system : List ℕ → System ℕ

@@ -1,6 +1,5 @@
 -- What a sheet means (document 01, "What a sheet means"). Definitions only.
-use Rattle.std.specs.Prelude.{◌≡◌, Bool, true, false, ◌&&◌, List, [], ◌∷◌, ℕ, zero, suc, ◌≤◌, ◌<◌, T, eqb, length, get_or, ℤ, pos, ◌≤ℤ◌}
-use Rattle.std.proofs.Math.Option.{Option, some, none}
+use Rattle.std.specs.Prelude.{◌≡◌, Bool, true, false, ◌&&◌, List, [], ◌∷◌, ℕ, zero, suc, ◌≤◌, ◌<◌, T, eqb, length, get_or, ℤ, pos, ◌≤ℤ◌, Option, Some, None}
 use Rattle.integers.specs.declared.Range.{Range}
 use Rattle.integers.specs.Range.{contains, Within}
 use Rattle.integers.specs.Inverse.{carried}
@@ -78,8 +77,8 @@ landing target rules x = record { state = target; values = updated rules x.value
 
 -- what a move gives: nothing where it is barred
 unfoldable pub moved : Move → Configuration → Option Configuration
-moved Barred x = none
-moved (Open target rules) x = some (landing target rules x)
+moved Barred x = None
+moved (Open target rules) x = Some (landing target rules x)
 
 -- what an action gives. An action past the sheet's number is barred.
 unfoldable pub step : Sheet → ℕ → Configuration → Option Configuration
@@ -146,4 +145,4 @@ pub record WellFormed (s : Sheet) : Type 0 where
   pub regions_disjoint : (i j : ℕ) (x : Configuration) → i < j → j < length s.regions
       → T (in_box (region_at s i).box x) → T (in_box (region_at s j).box x) → ⊥
   pub start_covered : Covered s s.start
-  pub moves_land : (x y : Configuration) (a : ℕ) → Covered s x → step s a x ≡ some y → Covered s y
+  pub moves_land : (x y : Configuration) (a : ℕ) → Covered s x → step s a x ≡ Some y → Covered s y

@@ -3,7 +3,7 @@
 #![tactic(auto)]
 
 // A rule for one counter: the new value is the offset, or factor * the old value of the source counter + offset.
-#[derive(Clone, Copy)]
+#[derive(Clone, Copy, Debug, PartialEq, Eq, Hash)]
 pub enum Rule {
     Set {
         offset: i64,

@@ -1,8 +1,7 @@
 -- The queue of the search over the blocks of two charts, as arrays: the pairs, the tree of their words, and the classes of all blocks of both.
-use Rattle.std.specs.Prelude.{ℕ, ◌+◌, ◌≤◌, ◌<◌, ◌≡◌, refl, List, [], ◌∷◌, ◌++◌, length, set}
+use Rattle.std.specs.Prelude.{ℕ, ◌+◌, ◌≤◌, ◌<◌, ◌≡◌, refl, List, [], ◌∷◌, ◌++◌, length, set, Some, None}
 use Rattle.std.proofs.Common.{eq-or-lt_of_le, arith, sym, ◌∙◌, ⊎_elim}
 use Rattle.std.proofs.Math.Path.{ap, subst}
-use Rattle.std.proofs.Math.Option.{some, none}
 use Rattle.std.proofs.Math.ListN.{get_or}
 use Rattle.std.proofs.Math.Seq.{get_or-set_same, get_or-set_other}
 use Rattle.systems.specs.System.{entry, Below, below_nil, Alike}
@@ -36,9 +35,9 @@ pub record Comparable (c d : List ℕ) : Type 0 where
 abbrev pub Room : List ℕ → Type 0
 Room l = length l ≡ 510
 
--- the five arrays of a search
-abbrev pub Rooms : List ℕ → List ℕ → List ℕ → List ℕ → List ℕ → Type 0
-Rooms cl ls rs ps bs = Room cl × Room ls × Room rs × Room ps × Room bs
+-- the queue's pairs, and the notes
+abbrev pub Rooms : List ℕ → List ℕ → List ℕ → List ℕ → Type 0
+Rooms ls rs ps bs = Room ls × Room rs × Room ps × Room bs
 
 -- pair k of the queue: a block of the first chart, one of the second, and the word that is noted for it
 unfoldable pub pair_at : List ℕ → List ℕ → List ℕ → List ℕ → ℕ → Pair ℕ ℕ
@@ -62,18 +61,18 @@ pub record Noted (c d ps bs : List ℕ) (k : ℕ) : Type 0 where
 
 -- what an action does on both charts: it leads to a block on either side, and these have one label
 pub record Stepped (c d : List ℕ) (i j a x y : ℕ) : Type 0 where
-  pub left_step : chart_step c a i ≡ some x
-  pub right_step : chart_step d a j ≡ some y
+  pub left_step : chart_step c a i ≡ Some x
+  pub right_step : chart_step d a j ≡ Some y
   pub left_block : x < blocks_of c
   pub right_block : y < blocks_of d
   pub labels : label_of c x ≡ label_of d y
 
 -- actions that a chart lacks are barred
-out_first : (c : List ℕ) (b : ℕ) → actions_of c ≤ b → (i : ℕ) → (chart_system c).step b i ≡ none
+out_first : (c : List ℕ) (b : ℕ) → actions_of c ≤ b → (i : ℕ) → (chart_system c).step b i ≡ None
 unfolding chart_system
 out_first c b h i = chart_step_out c b i h
 
-out_second : {c d : List ℕ} → Comparable c d → (b : ℕ) → actions_of c ≤ b → (i : ℕ) → (chart_system d).step b i ≡ none
+out_second : {c d : List ℕ} → Comparable c d → (b : ℕ) → actions_of c ≤ b → (i : ℕ) → (chart_system d).step b i ≡ None
 out_second {c} {d} C b h i = out_first d b (omega (arith, C.same_actions)) i
 
 -- there are fewer pairs than blocks
@@ -120,7 +119,7 @@ class_joined {c} {d} {cl} {ls} {rs} {ps} {bs} {m} x y Q hx hy e =
     }
 
 -- one action more is barred on both sides,
-pub queue_barred : {c d cl ls rs ps bs : List ℕ} {m h a : ℕ} → Queue c d cl ls rs ps bs m h a → chart_step c a (get_or ls h 0) ≡ none → chart_step d a (get_or rs h 0) ≡ none
+pub queue_barred : {c d cl ls rs ps bs : List ℕ} {m h a : ℕ} → Queue c d cl ls rs ps bs m h a → chart_step c a (get_or ls h 0) ≡ None → chart_step d a (get_or rs h 0) ≡ None
     → Queue c d cl ls rs ps bs m h (a + 1)
 unfolding chart_system pair_at
 queue_barred {c} {d} Q e f =

@@ -1,11 +1,10 @@
 // Classes of nodes: an array holds for each node the number of its class.
 ghost use Rattle.std.specs.Prelude.{◌≡◌, ℕ, ◌≤◌, ◌<◌, get_or};
 ghost use Rattle.pair_search.specs.Classes.{merged};
-ghost use Rattle.pair_search.specs.Queue.{Room, Merged};
+ghost use Rattle.pair_search.specs.Queue.{Merged};
 
 // Puts each of n nodes into a class of its own.
-pub(crate) fn separate(classes: &mut [u16], n: usize)
-    requires room { Room classes.old }
+pub(crate) fn separate(classes: &mut [u16; 510], n: usize)
     requires n_bound { n ≤ 510 }
     ensures { (z : ℕ) → z < n → get_or classes.new z 0 ≡ z }
 {
@@ -22,8 +21,7 @@ fn moved(class: u16, from: u16, to: u16) -> u16
 }
 
 // Puts the nodes of the class of y into that of x.
-pub(crate) fn merge(classes: &mut [u16], n: usize, x: usize, y: usize)
-    requires room { Room classes.old }
+pub(crate) fn merge(classes: &mut [u16; 510], n: usize, x: usize, y: usize)
     requires n_bound { n ≤ 510 }
     requires x_lt_n { (x < n) × (y < n) }
     ensures { Merged n x y classes.old classes.new }

@@ -1,4 +1,4 @@
-// The library that C and Rust programs link. An answer enum cannot cross to C: each function that may refuse returns 0 where it was done, else
+// The library that C and Rust programs link. A Result cannot cross to C: each function that may refuse returns 0 where it was done, else
 // the refusal's number, and stores through `returned` what document 01's table says is returned. A slice passes as a pointer, then a length; one
 // that is handed back is stored as such a pair.
 // Public: no function asks anything of its caller, and each contract gives the answer as a definition does.
@@ -19,17 +19,14 @@ ghost use Rattle.separation_rules.specs.Separation.{pair_check, evidence, separa
 ghost use Rattle.set_point_rules.specs.SetPoint.{set_point};
 ghost use Rattle.congruence_rules.specs.Congruence.{go_round, counts_left};
 ghost use Rattle.log_rules.specs.Compare.{first_difference, rest_of, lent, part_of};
-ghost use Rattle.c_answers.specs.Exports.{check_number, check_returned, run_number, run_returned, run_barred, depth_number, depth_returned, make_number, make_returned, way_number, way_returned, part_number, part_returned, part_equal, rule_from, point_number, point_returned, point_old, point_remainder, solved_number, solved_returned};
+ghost use Rattle.c_answers.specs.Exports.{number_told, check_returned, value_returned, run_returned, run_barred, part_returned, part_equal, rule_from, point_returned, point_old, point_remainder, solved_returned};
 
-use c_answers::{
-    rule_from, told_check, told_depth, told_made, told_part, told_point, told_run, told_solved,
-    told_way,
-};
+use c_answers::{rule_from, told, told_check, told_part, told_point, told_run, told_solved};
 
 // Checks a sheet.
 #[unsafe(no_mangle)]
 pub extern "C" fn pilfstera_check_sheet(sheet: &[u8], returned: &mut usize) -> u8
-    ensures value { result ≡ check_number (sheet_check sheet.now) }
+    ensures value { result ≡ number_told (sheet_check sheet.now) }
     ensures returned_after { returned.new ≡ check_returned (sheet_check sheet.now) }
 {
     told_check(sheet::check(sheet), returned)
@@ -44,7 +41,7 @@ pub extern "C" fn pilfstera_run_sheet(
     returned: &mut usize,
     barred: &mut usize,
 ) -> u8
-    ensures value { result ≡ run_number (sheet_ran sheet.now actions.now (length entries.old)) }
+    ensures value { result ≡ number_told (sheet_ran sheet.now actions.now (length entries.old)) }
     ensures entries_after { entries.new ≡ sheet_left sheet.now actions.now entries.old }
     ensures returned_after { returned.new ≡ run_returned (sheet_ran sheet.now actions.now (length entries.old)) }
     ensures barred_after { barred.new ≡ run_barred (sheet_ran sheet.now actions.now (length entries.old)) (length actions.now) barred.old }
@@ -56,7 +53,7 @@ pub extern "C" fn pilfstera_run_sheet(
 // Checks a chart.
 #[unsafe(no_mangle)]
 pub extern "C" fn pilfstera_check_chart(chart: &[u8], returned: &mut usize) -> u8
-    ensures value { result ≡ check_number (chart_check chart.now) }
+    ensures value { result ≡ number_told (chart_check chart.now) }
     ensures returned_after { returned.new ≡ check_returned (chart_check chart.now) }
 {
     told_check(chart::check(chart), returned)
@@ -65,10 +62,10 @@ pub extern "C" fn pilfstera_check_chart(chart: &[u8], returned: &mut usize) -> u
 // The settling depth of a chart.
 #[unsafe(no_mangle)]
 pub extern "C" fn pilfstera_depth(chart: &[u8], returned: &mut usize) -> u8
-    ensures value { result ≡ depth_number (chart_depth chart.now) }
-    ensures returned_after { returned.new ≡ depth_returned (chart_depth chart.now) }
+    ensures value { result ≡ number_told (chart_depth chart.now) }
+    ensures returned_after { returned.new ≡ value_returned (chart_depth chart.now) }
 {
-    told_depth(chart::depth(chart), returned)
+    told(chart::depth(chart), returned)
 }
 
 // Runs an action sequence on a chart.
@@ -80,7 +77,7 @@ pub extern "C" fn pilfstera_run_chart(
     returned: &mut usize,
     barred: &mut usize,
 ) -> u8
-    ensures value { result ≡ run_number (chart_ran chart.now actions.now (length entries.old)) }
+    ensures value { result ≡ number_told (chart_ran chart.now actions.now (length entries.old)) }
     ensures entries_after { entries.new ≡ chart_left chart.now actions.now entries.old }
     ensures returned_after { returned.new ≡ run_returned (chart_ran chart.now actions.now (length entries.old)) }
     ensures barred_after { barred.new ≡ run_barred (chart_ran chart.now actions.now (length entries.old)) (length actions.now) barred.old }
@@ -97,13 +94,13 @@ pub extern "C" fn pilfstera_make(
     list: &mut [u8],
     returned: &mut usize,
 ) -> u8
-    ensures value { result ≡ make_number (made_by (make_checks sheet.now (length chart.old) (length list.old)) (decode sheet.now)) }
+    ensures value { result ≡ number_told (made_by (make_checks sheet.now (length chart.old) (length list.old)) (decode sheet.now)) }
     ensures chart_after { chart.new ≡ written_by (make_checks sheet.now (length chart.old) (length list.old)) (chart_of (decode sheet.now)) chart.old }
     ensures list_after { list.new ≡ written_by (make_checks sheet.now (length chart.old) (length list.old)) (box_list_of (bound_size sheet.now) (decode sheet.now)) list.old }
-    ensures returned_after { returned.new ≡ make_returned (made_by (make_checks sheet.now (length chart.old) (length list.old)) (decode sheet.now)) }
+    ensures returned_after { returned.new ≡ value_returned (made_by (make_checks sheet.now (length chart.old) (length list.old)) (decode sheet.now)) }
 {
     let made = charting::make(sheet, chart, list);
-    told_made(made, returned)
+    told(made, returned)
 }
 
 // The way to a block of a sheet's chart, from the front of a buffer.
@@ -114,12 +111,12 @@ pub extern "C" fn pilfstera_way(
     actions: &mut [u8],
     returned: &mut usize,
 ) -> u8
-    ensures value { result ≡ way_number (answered_by (way_checks sheet.now block (length actions.old)) (way_to (decode sheet.now) block)) }
+    ensures value { result ≡ number_told (answered_by (way_checks sheet.now block (length actions.old)) (way_to (decode sheet.now) block)) }
     ensures actions_after { actions.new ≡ written_by (way_checks sheet.now block (length actions.old)) (way_to (decode sheet.now) block) actions.old }
-    ensures returned_after { returned.new ≡ way_returned (answered_by (way_checks sheet.now block (length actions.old)) (way_to (decode sheet.now) block)) }
+    ensures returned_after { returned.new ≡ value_returned (answered_by (way_checks sheet.now block (length actions.old)) (way_to (decode sheet.now) block)) }
 {
     let access = access_sequence::find(sheet, block, actions);
-    told_way(access, returned)
+    told(access, returned)
 }
 
 // The shortest action sequence that parts two charts, from the front of a buffer, or that they are equal in behaviour.
@@ -131,7 +128,7 @@ pub extern "C" fn pilfstera_part(
     returned: &mut usize,
     equal: &mut u8,
 ) -> u8
-    ensures value { result ≡ part_number (separated_by (pair_check first.now second.now (length actions.old)) (evidence first.now second.now)) }
+    ensures value { result ≡ number_told (separated_by (pair_check first.now second.now (length actions.old)) (evidence first.now second.now)) }
     ensures actions_after { actions.new ≡ left_by (pair_check first.now second.now (length actions.old)) (evidence first.now second.now) actions.old }
     ensures returned_after { returned.new ≡ part_returned (separated_by (pair_check first.now second.now (length actions.old)) (evidence first.now second.now)) }
     ensures equal_after { equal.new ≡ part_equal (separated_by (pair_check first.now second.now (length actions.old)) (evidence first.now second.now)) equal.old }
@@ -151,7 +148,7 @@ pub extern "C" fn pilfstera_set_point(
     old: &mut i64,
     remainder: &mut i64,
 ) -> u8
-    ensures value { result ≡ point_number (set_point (rule_from kind factor offset) wanted) }
+    ensures value { result ≡ number_told (set_point (rule_from kind factor offset) wanted) }
     ensures returned_after { returned.new ≡ point_returned (set_point (rule_from kind factor offset) wanted) }
     ensures after { old.new ≡ point_old (set_point (rule_from kind factor offset) wanted) old.old }
     ensures remainder_after { remainder.new ≡ point_remainder (set_point (rule_from kind factor offset) wanted) remainder.old }
@@ -170,12 +167,12 @@ pub extern "C" fn pilfstera_go_round(
     counts: &mut [u64; 8],
     returned: &mut usize,
 ) -> u8
-    ensures value { result ≡ solved_number (go_round modulus start wanted increments.now) }
+    ensures value { result ≡ number_told (go_round modulus start wanted increments.now) }
     ensures counts_after { counts.new ≡ counts_left modulus start wanted increments.now counts.old }
     ensures returned_after { returned.new ≡ solved_returned (go_round modulus start wanted increments.now) }
 {
-    let solved = congruence::solve(modulus, start, wanted, increments, counts);
-    told_solved(solved, returned)
+    let solved = congruence::solve(modulus, start, wanted, increments);
+    told_solved(solved, counts, returned)
 }
 
 // The first index where two logs differ, or the length of the shorter.

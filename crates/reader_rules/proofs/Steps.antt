@@ -1,19 +1,17 @@
 -- Laws of what is handed out, as the code finds it.
-use Rattle.std.specs.Prelude.{◌≡◌, refl, Bool, true, false, ◌&&◌, List, [], ◌∷◌, ℕ, ◌+◌, ◌≤◌, ◌<◌, ltb, length, get_or, set}
-use Rattle.std.proofs.Common.{sym, ap, ◌∙◌, ⊎_elim, arith, eq-or-lt_of_le, length-set, ext_get_or, get_or-set_same, get_or-set_other, lt-ltb, le-ltb}
+use Rattle.std.specs.Prelude.{◌≡◌, refl, Bool, true, false, ◌&&◌, List, [], ◌∷◌, ℕ, ◌+◌, ◌≤◌, ◌<◌, ltb, length, get_or, set, Some, None, Ok, Err}
+use Rattle.std.proofs.Common.{sym, ap, ◌∙◌, ⊎_elim, arith, eq-or-lt_of_le, length-set, ext_get_or, get_or-set_same, get_or-set_other, lt-ltb, le-ltb, ltb-true}
 use Rattle.std.proofs.Math.Decide.{dec_le}
 use Rattle.systems.specs.Lists.{collect}
 use Rattle.systems.proofs.Lists.{length_each, get_d_each}
-use Rattle.answer_rules.specs.declared.Checked.{Checked}
-use Rattle.answer_rules.specs.declared.Checked.TheVariants.{Fine, Refused}
+use Rattle.answer_rules.specs.declared.Refusal.{Refusal}
+use Rattle.answer_rules.specs.Refusal.{Checked}
 use Rattle.answer_rules.proofs.Loops.{and_second}
 use Rattle.model.specs.Chart.{blocks_of, label_of}
 use Rattle.chart_bytes.specs.Header.{header_check}
-use Rattle.chart.specs.Check.{chart_check}
-use Rattle.reader_rules.specs.declared.Handed.TheVariants.{Block}
-use Rattle.reader_rules.specs.declared.Step.{Step}
-use Rattle.reader_rules.specs.declared.Opening.{Opening}
-use Rattle.reader_rules.specs.Reading.{is_fine, has_block, eight_targets, targets_of, block_step, none_step, step_at, first_next, opening_of}
+use Rattle.chart_bytes.specs.HeaderLaws.{header_passed}
+use Rattle.reader_rules.specs.declared.Block.{Block}
+use Rattle.reader_rules.specs.Reading.{is_fine, has_block, eight_targets, targets_of, block_at, Step, block_step, none_step, step_at}
 
 pub length_eight : (f : ℕ → ℕ) (n : ℕ) → length (eight_targets f n) ≡ 8
 unfolding eight_targets
@@ -71,36 +69,66 @@ had : (c : List ℕ) (i : ℕ) {h k : Checked} → h ≡ header_check c → h �
 unfolding has_block
 had c i e q = ap (λ (k : Checked). is_fine k && ltb i (blocks_of c)) (sym e ∙ q)
 
-pub step_headless : (c : List ℕ) (i : ℕ) {h : Checked} {n p : ℕ} {r : Step} → h ≡ header_check c → h ≡ Refused n p → r ≡ none_step i → r ≡ step_at c i
+pub step_headless : (c : List ℕ) (i : ℕ) {h : Checked} {why : Refusal} → h ≡ header_check c → h ≡ Err why → step_at c i ≡ none_step i
 unfolding is_fine
-step_headless c i e q m = m ∙ sym (chosen c i false (had c i e q))
+step_headless c i e q = chosen c i false (had c i e q)
 
-pub step_block : (c : List ℕ) (i : ℕ) {h : Checked} {r : Step} → h ≡ header_check c → h ≡ Fine → i < blocks_of c → r ≡ block_step c i → r ≡ step_at c i
+pub step_block : (c : List ℕ) (i : ℕ) {h : Checked} → h ≡ header_check c → h ≡ Ok tt → i < blocks_of c → step_at c i ≡ block_step c i
 unfolding is_fine
-step_block c i e q l m = m ∙ sym (chosen c i true (had c i e q ∙ lt-ltb i (blocks_of c) l))
+step_block c i e q l = chosen c i true (had c i e q ∙ lt-ltb i (blocks_of c) l)
 
-pub step_past : (c : List ℕ) (i : ℕ) {h : Checked} {r : Step} → h ≡ header_check c → h ≡ Fine → blocks_of c ≤ i → r ≡ none_step i → r ≡ step_at c i
+pub step_past : (c : List ℕ) (i : ℕ) {h : Checked} → h ≡ header_check c → h ≡ Ok tt → blocks_of c ≤ i → step_at c i ≡ none_step i
 unfolding is_fine
-step_past c i e q l m = m ∙ sym (chosen c i false (had c i e q ∙ le-ltb i (blocks_of c) l))
-
--- what opening told
-pub opened_as : (c : List ℕ) {answer : Checked} {next : ℕ} → answer ≡ chart_check c → next ≡ first_next answer → record { answer = answer; next = next } ≡ opening_of c
-unfolding opening_of
-opened_as c {answer} e q =
-    ap (λ (n : ℕ). record { answer = answer; next = n }) (q ∙ ap first_next e) ∙ ap (λ (a : Checked). record { answer = a; next = first_next (chart_check c) }) e
-
--- a block, put together
-pub block_as : (c : List ℕ) (i : ℕ) {l : ℕ} {t : List ℕ} → l ≡ label_of c i → t ≡ targets_of c i
-    → record { handed = Block l; targets = t; next = i + 1 } ≡ block_step c i
-unfolding block_step
-block_as c i {l} {t} e q =
-    ap (λ (x : List ℕ). record { handed = Block l; targets = x; next = i + 1 }) q ∙ ap (λ (x : ℕ). record { handed = Block x; targets = targets_of c i; next = i + 1 }) e
-
-pub opened_with : (c : List ℕ) {g : Opening} → g ≡ opening_of c → (g.answer ≡ chart_check c) × (g.next ≡ first_next (chart_check c))
-unfolding opening_of
-opened_with c e = (ap (λ (k : Opening). k.answer) e, ap (λ (k : Opening). k.next) e)
+step_past c i e q l = chosen c i false (had c i e q ∙ le-ltb i (blocks_of c) l)
 
 -- past the number of blocks nothing is handed out, whatever the bytes
 pub none_past : (c : List ℕ) (i : ℕ) → blocks_of c ≤ i → step_at c i ≡ none_step i
 unfolding has_block
 none_past c i h = chosen c i false (ap (λ (b : Bool). is_fine (header_check c) && b) (le-ltb i (blocks_of c) h) ∙ and_second (is_fine (header_check c)) refl)
+
+-- none is handed out
+pub hands_none : (c : List ℕ) (i : ℕ) → step_at c i ≡ none_step i → None ≡ (step_at c i).block
+unfolding none_step
+hands_none c i e = sym (ap (λ (s : Step). s.block) e)
+
+-- a block is handed out
+pub hands_block : (c : List ℕ) (i : ℕ) {b : Block} → step_at c i ≡ block_step c i → b ≡ block_at c i → Some b ≡ (step_at c i).block
+unfolding block_step
+hands_block c i e q = ap Some q ∙ sym (ap (λ (s : Step). s.block) e)
+
+pub block_as : (c : List ℕ) (i : ℕ) {l : ℕ} {t : List ℕ} → l ≡ label_of c i → t ≡ targets_of c i → ◌≡◌ {A = Block} (record { label = l; targets = t }) (block_at c i)
+unfolding block_at
+block_as c i {l} {t} e q = λ k. record { label = e k; targets = q k }
+
+both_second : (a b : Bool) → (a && b) ≡ true → b ≡ true
+both_second true b e = e
+both_second false b e = absurd cc
+
+both_first : (a b : Bool) → (a && b) ≡ true → a ≡ true
+both_first true b e = refl
+both_first false b e = absurd cc
+
+fine : (r : Checked) → is_fine r ≡ true → r ≡ Ok tt
+unfolding is_fine
+fine (Ok _) e = refl
+fine (Err why) e = absurd cc
+
+-- where a block is handed out the reader moves on, and where none is it stays
+moves : (c : List ℕ) (i : ℕ) (t : Bool) → has_block c i ≡ t → {b : Block} → (step_at c i).block ≡ Some b → ((step_at c i).next ≡ i + 1) × (i < 255)
+unfolding block_step none_step has_block
+moves c i true e q =
+    let l = ltb-true i (blocks_of c) (both_second (is_fine (header_check c)) (ltb i (blocks_of c)) e) in
+    let s = (header_passed c (fine (header_check c) (both_first (is_fine (header_check c)) (ltb i (blocks_of c)) e))).1 in
+    (ap (λ (s : Step). s.next) (chosen c i true e), omega (arith, s.blocks_few))
+moves c i false e q = let n = ap (λ (s : Step). s.block) (chosen c i false e) in absurd cc
+
+pub step_moves : (c : List ℕ) (i : ℕ) {b : Block} → (step_at c i).block ≡ Some b → ((step_at c i).next ≡ i + 1) × (i < 255)
+step_moves c i = moves c i (has_block c i) refl
+
+stays : (c : List ℕ) (i : ℕ) (t : Bool) → has_block c i ≡ t → (step_at c i).block ≡ None → (step_at c i).next ≡ i
+unfolding block_step none_step
+stays c i true e q = let n = ap (λ (s : Step). s.block) (chosen c i true e) in absurd cc
+stays c i false e q = ap (λ (s : Step). s.next) (chosen c i false e)
+
+pub step_stays : (c : List ℕ) (i : ℕ) → (step_at c i).block ≡ None → (step_at c i).next ≡ i
+step_stays c i = stays c i (has_block c i) refl

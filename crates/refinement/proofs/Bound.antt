@@ -1,9 +1,8 @@
 -- The bound on depth: with at most 255 blocks, what reads the same to depth 254 reads the same for ever. So rows that are 255 deep already have all blocks, and
 -- a landing in none of them means more than 255.
-use Rattle.std.specs.Prelude.{ℕ, ◌≤◌, ◌<◌, ◌≡◌, refl, ◌↔◌, Bool, T, length}
+use Rattle.std.specs.Prelude.{ℕ, ◌≤◌, ◌<◌, ◌≡◌, refl, ◌↔◌, Bool, T, length, Some}
 use Rattle.std.proofs.Common.{arith, subst, ◌∙◌}
 use Rattle.std.proofs.Math.Path.{sym}
-use Rattle.std.proofs.Math.Option.{some}
 use Rattle.systems.specs.System.{System, Alike, Reached, at_start, by_step}
 use Rattle.systems.specs.Alike.{AlikeTo}
 use Rattle.systems.proofs.Alike.{alike_next, both_left}
@@ -41,7 +40,7 @@ module _ (s : Sheet) (W : WellFormed s) (few : length (blocks s) ≤ 255) where
         λ r. c.1 ((blocks_representatives s W).covered j hj, λ w l. block_alike i hi w ∙ r w l ∙ sym (block_alike j hj w)),
       )
 
-  numbered_closed : (a i j : ℕ) → i < length (blocks s) → numbered.step a i ≡ some j → j < length (blocks s)
+  numbered_closed : (a i j : ℕ) → i < length (blocks s) → numbered.step a i ≡ Some j → j < length (blocks s)
   unfolding blocks numbered
   numbered_closed a i j h e = quotient_closed (sheet_system s) (same_class s) s.actions s.start (Covered s) (sheet_explorable s W) 255 few a i j h e
 

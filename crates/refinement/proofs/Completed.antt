@@ -1,10 +1,9 @@
 -- What a completed table of a sheet gives: its boxes are the class boxes, it has a row for each block, and its walk gives the chart and the box list.
 use Prim.Native.Nat.{ℕ, ◌≤◌, ◌<◌}
 use Rattle.std.proofs.Common.{arith, subst, ◌∙◌, inl, inr, ⊎_elim, eqb→eq}
-use Rattle.std.specs.Prelude.{◌≡◌, refl, ◌⊎◌, Bool, true, false, eqb, length, get_or}
+use Rattle.std.specs.Prelude.{◌≡◌, refl, ◌⊎◌, Bool, true, false, eqb, length, get_or, Some, None, option_map}
 use Rattle.std.proofs.Math.Path.{sym, ap}
 use mathlib.Core.List.{List, [], ◌∷◌, ◌++◌}
-use Rattle.std.proofs.Math.Option.{some, none, map}
 use borrow.Author.Tests.{le-ltb}
 use Rattle.std.proofs.Math.Dec.{T}
 use Rattle.integers.specs.LittleEndian.{split}
@@ -38,11 +37,11 @@ byte_open : (order : List ℕ) (t : ℕ) → t < 255 → number_byte order t ≡
 unfolding number_byte
 byte_open order t h = rw (is_false (eqb t 255) (λ u. let e = eqb→eq t 255 u in omega arith), number_byte)
 
-byte_number : (order : List ℕ) (t : ℕ) → byte_of (map (place eqb order) (block_named t)) ≡ number_byte order t
+byte_number : (order : List ℕ) (t : ℕ) → byte_of (option_map (place eqb order) (block_named t)) ≡ number_byte order t
 unfolding byte_of number_byte block_named
 byte_number order t = go (eqb t 255)
   where
-    go : (b : Bool) → byte_of (map (place eqb order) (elim b [ true ↦ none | false ↦ some t ])) ≡ elim b [ true ↦ 255 | false ↦ place eqb order t ]
+    go : (b : Bool) → byte_of (option_map (place eqb order) (elim b [ true ↦ None | false ↦ Some t ])) ≡ elim b [ true ↦ 255 | false ↦ place eqb order t ]
     go true = refl
     go false = refl
 

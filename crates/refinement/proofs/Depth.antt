@@ -1,15 +1,14 @@
 -- How deep each row of a table is: to what depth its members read as its representative does. Knows nothing of boxes.
-use Rattle.std.specs.Prelude.{ℕ, suc, ◌≤◌, ◌<◌, ◌≡◌, refl, T}
+use Rattle.std.specs.Prelude.{ℕ, suc, ◌≤◌, ◌<◌, ◌≡◌, refl, T, Option, Some, None}
 use Rattle.std.proofs.Math.Decide.{dec_lt}
 use Rattle.std.proofs.Common.{arith, sym, ap, subst, subst₂, ◌∙◌, ⊎_elim}
-use Rattle.std.proofs.Math.Option.{Option, some, none}
 use Rattle.systems.specs.Alike.{Both, both_barred, both_open, AlikeTo}
 use Rattle.systems.proofs.Alike.{alike_to_zero, alike_to_suc, alike_to_le, alike_to_equivalence}
 use Rattle.refinement.specs.Table.{Frame, Framed, SoundRow, Settled, StableAt, stable_barred, stable_open}
 use Rattle.refinement.proofs.Table.{row_barred}
 use Rattle.refinement.specs.Depth.{Shrunk, Deep, AllDeep, Near, Reaches}
 
-none_some : {X : Type 0} {A : Type 0} {o : Option X} {y : X} → o ≡ none → o ≡ some y → A
+none_some : {X : Type 0} {A : Type 0} {o : Option X} {y : X} → o ≡ None → o ≡ Some y → A
 none_some u v = let z : ◌≡◌ {A = ℕ} 0 1 = cc in absurd (omega arith)
 
 module _ {X Row : Type 0} (F : Frame X Row) where
@@ -73,7 +72,7 @@ module _ {X Row : Type 0} (F : Frame X Row) where
             subst₂ (Both (AlikeTo k F.system F.system)) (sym L.leads) (sym M.leads)
             (both_open (Q.trans L.next (F.representative (row t)) M.next (Q.symm (F.representative (row t)) L.next (member L.next L.inside)) (member M.next M.inside)));
         known = λ q e.
-            let z : some L.next ≡ some q = sym L.leads ∙ e in
+            let z : Some L.next ≡ Some q = sym L.leads ∙ e in
             let z' : L.next ≡ q = cc in
             (t, h, subst (AlikeTo k F.system F.system (F.representative (row t))) z' (member L.next L.inside));
       }
@@ -87,7 +86,7 @@ module _ {X Row : Type 0} (F : Frame X Row) where
 
   module _ (E : Framed F) where
     -- a barred action is near to every depth
-    pub near_barred : {n : ℕ} {row : ℕ → Row} {k : ℕ} (r : Row) (a : ℕ) → SoundRow F r → F.system.step a (F.representative r) ≡ none → Near F n row k r a
+    pub near_barred : {n : ℕ} {row : ℕ → Row} {k : ℕ} (r : Row) (a : ℕ) → SoundRow F r → F.system.step a (F.representative r) ≡ None → Near F n row k r a
     near_barred {k = k} r a R e =
         record {
           leads = λ y t. subst₂ (Both (AlikeTo k F.system F.system)) (sym e) (sym (row_barred F E r a y R t e)) both_barred;
@@ -126,7 +125,7 @@ module _ {X Row : Type 0} (F : Frame X Row) where
         next y t a (no b) =
             subst₂ (Both (AlikeTo k F.system F.system)) (sym (E.bounded a (omega arith) (F.representative (row i)))) (sym (E.bounded a (omega arith) y)) both_barred
 
-        onward : (m a : ℕ) (q : X) → m < suc k → F.system.step a (F.representative (row i)) ≡ some q → Dec (a < F.actions)
+        onward : (m a : ℕ) (q : X) → m < suc k → F.system.step a (F.representative (row i)) ≡ Some q → Dec (a < F.actions)
             → (j : ℕ) × (j < n) × AlikeTo m F.system F.system (F.representative (row j)) q
         onward m a q l e (no b) = none_some (E.bounded a (omega arith) (F.representative (row i))) e
         onward m a q l e (yes b) =

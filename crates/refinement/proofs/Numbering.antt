@@ -1,9 +1,8 @@
 -- Numbering: a breadth-first walk over the row numbers and stored targets of a sound and stable table goes in lock step with the exploration of the
 -- system itself. Knows nothing of boxes.
-use Rattle.std.specs.Prelude.{ℕ, zero, suc, ◌≤◌, ◌<◌, ◌≡◌, refl, Bool, List, T, get_or}
+use Rattle.std.specs.Prelude.{ℕ, zero, suc, ◌≤◌, ◌<◌, ◌≡◌, refl, Bool, List, T, get_or, option_map}
 use Rattle.std.proofs.Common.{arith, sym, subst, ◌∙◌, lt-ltb, le-ltb, eqb→eq}
 use Rattle.std.proofs.Math.Path.{ap}
-use Rattle.std.proofs.Math.Option.{map}
 use Rattle.std.proofs.Math.Dec.{eqb, eqb_refl}
 use Rattle.std.proofs.Math.ListN.{length}
 use Rattle.systems.specs.System.{Alike}
@@ -86,13 +85,13 @@ module _ {X Row : Type 0} (F : Frame X Row) (E : Framed F) (same : X → X → B
 
   -- and an action of member k is barred, or leads to the place that the stored target has in the walk.
   pub numbering_place : (m k a : ℕ) → k < length (walk t F.actions m) → a < F.actions
-      → map (place same (explore F.system same F.actions F.start m)) (F.system.step a (get_or (explore F.system same F.actions F.start m) k F.start))
-      ≡ map (place eqb (walk t F.actions m)) (block_named (t (get_or (walk t F.actions m) k 0) a))
+      → option_map (place same (explore F.system same F.actions F.start m)) (F.system.step a (get_or (explore F.system same F.actions F.start m) k F.start))
+      ≡ option_map (place eqb (walk t F.actions m)) (block_named (t (get_or (walk t F.actions m) k 0) a))
   unfolding walk
   numbering_place m k a h b =
       let e : length (explore F.system same F.actions F.start m) ≡ length (explore (target_system t F.actions) eqb F.actions 0 m) = numbering_length m in
       lock_step_place F.system (target_system t F.actions) same eqb F.actions (InRow F n row) rows_lock F.start 0 start_in m k a (omega arith) b
-      ∙ ap (map (place eqb (walk t F.actions m))) (target_step t F.actions a (get_or (walk t F.actions m) k 0) b)
+      ∙ ap (option_map (place eqb (walk t F.actions m))) (target_step t F.actions a (get_or (walk t F.actions m) k 0) b)
 
   -- The exploration has at most as many members as the table has rows,
   pub rows_bound : (m : ℕ) → length (explore F.system same F.actions F.start m) ≤ n

@@ -1,11 +1,10 @@
 -- Tables of a sheet: a row is a representative and a box. The first table, cuts and new rows by regions and preimages; the boxes of a stable table are
 -- class boxes, and its walk gives the chart and the box list.
-use Rattle.std.specs.Prelude.{ℕ, suc, ◌<◌, ◌≡◌, refl, ◌↔◌, true, List, T, length, get_or}
+use Rattle.std.specs.Prelude.{ℕ, suc, ◌<◌, ◌≡◌, refl, ◌↔◌, true, List, T, length, get_or, Some, None}
 use Rattle.std.proofs.Math.Decide.{dec_lt}
 use native.Mathlib.Omega.{arith}
 use Rattle.std.proofs.Common.{sym, ap, ◌∙◌}
 use Rattle.std.proofs.Math.Path.{subst}
-use Rattle.std.proofs.Math.Option.{some, none}
 use borrow.Author.Tests.{lt-ltb}
 use Rattle.std.proofs.Math.ListN.{get_or-eq_default}
 use Rattle.systems.specs.Alike.{Both, both_barred, both_open}
@@ -23,11 +22,11 @@ use Rattle.refinement.specs.Table.{Framed, SoundRow, Sound, Leads, Whole, Cut}
 use Rattle.refinement.proofs.Table.{first_sound, cut_sound, append_sound, new_many, next_covered}
 use Rattle.refinement.specs.SheetTable.{Row, sheet_frame, move_at, region_row, cut_row}
 
-pub step_open : (s : Sheet) (a : ℕ) (x : Configuration) {target : ℕ} {rules : List Rule} → move_at s a x ≡ Open target rules → step s a x ≡ some (landing target rules x)
+pub step_open : (s : Sheet) (a : ℕ) (x : Configuration) {target : ℕ} {rules : List Rule} → move_at s a x ≡ Open target rules → step s a x ≡ Some (landing target rules x)
 unfolding step moved
 step_open s a x e = ap (λ (m : Move). moved m x) e
 
-pub step_barred : (s : Sheet) (a : ℕ) (x : Configuration) → move_at s a x ≡ Barred → step s a x ≡ none
+pub step_barred : (s : Sheet) (a : ℕ) (x : Configuration) → move_at s a x ≡ Barred → step s a x ≡ None
 unfolding step moved
 step_barred s a x e = ap (λ (m : Move). moved m x) e
 
@@ -121,7 +120,7 @@ module _ (s : Sheet) (W : WellFormed s) where
           let p = preimage_exact r.box target rules w.box y f (omega arith) (row_fits r R).ranges_count W.counters_some in (
             λ t. let (u, v) = p.0 t in (u, leads_in a y w (same_move y u) v),
             λ (u, L).
-                let q : some L.next ≡ some (landing target rules y) = sym L.leads ∙ step_open s a y (same_move y u) in
+                let q : Some L.next ≡ Some (landing target rules y) = sym L.leads ∙ step_open s a y (same_move y u) in
                 let q' : L.next ≡ landing target rules y = cc in
                 p.1 (u, subst (λ (z : Configuration). T (in_box w.box z)) q' L.inside),
           )

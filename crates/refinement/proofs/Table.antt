@@ -1,16 +1,15 @@
 -- The table of the algorithm: rows, each a representative with a set of configurations that holds its class. Sound tables, cuts, new rows, and what
 -- a stable table holds. Knows nothing of boxes.
-use Rattle.std.specs.Prelude.{ℕ, suc, ◌<◌, ◌≡◌, refl, ◌↔◌, T}
+use Rattle.std.specs.Prelude.{ℕ, suc, ◌<◌, ◌≡◌, refl, ◌↔◌, T, Option, Some, None}
 use Rattle.std.proofs.Math.Decide.{dec_lt, ℕ_discrete}
 use Rattle.std.proofs.Common.{arith, sym, ap, subst, subst₂, ◌∙◌}
-use Rattle.std.proofs.Math.Option.{Option, some, none}
 use Rattle.systems.specs.System.{Alike, Reached, at_start, by_step}
 use Rattle.systems.specs.Alike.{Both, both_barred, both_open, Bisimulation}
 use Rattle.systems.proofs.Alike.{both_right, bisimilar_alike, alike_next}
 use Rattle.exploration.specs.Explored.{Many}
 use Rattle.refinement.specs.Table.{Frame, Framed, SoundRow, Sound, Leads, Whole, Cut, Settled, StableAt, stable_barred, stable_open, Stable}
 
-none_some : {X : Type 0} {A : Type 0} {o : Option X} {y : X} → o ≡ none → o ≡ some y → A
+none_some : {X : Type 0} {A : Type 0} {o : Option X} {y : X} → o ≡ None → o ≡ Some y → A
 none_some p q = let z : ◌≡◌ {A = ℕ} 0 1 = cc in absurd (omega arith)
 
 module _ {X Row : Type 0} (F : Frame X Row) (E : Framed F) where
@@ -87,15 +86,15 @@ module _ {X Row : Type 0} (F : Frame X Row) (E : Framed F) where
   new_apart {n} {row} k q S h c f e = f ((S.rows k h).saturated (F.representative (row k)) q (S.rows k h).holds c e)
 
   -- a successor of a representative is reached and covered
-  pub next_reached : (a : ℕ) (r : Row) (q : X) → SoundRow F r → F.system.step a (F.representative r) ≡ some q → Reached F.system F.start q
+  pub next_reached : (a : ℕ) (r : Row) (q : X) → SoundRow F r → F.system.step a (F.representative r) ≡ Some q → Reached F.system F.start q
   next_reached a r q R e = by_step a R.reached e
 
-  pub next_covered : (a : ℕ) (r : Row) (q : X) → SoundRow F r → F.system.step a (F.representative r) ≡ some q → F.Covered q
+  pub next_covered : (a : ℕ) (r : Row) (q : X) → SoundRow F r → F.system.step a (F.representative r) ≡ Some q → F.Covered q
   next_covered a r q R e = E.closed a (F.representative r) q (R.covered (F.representative r) R.holds) e
 
   -- Append: a successor of a representative that is in no row, with its whole region.
   pub append_sound : {n : ℕ} {row : ℕ → Row} (row' : ℕ → Row) (i a : ℕ) (q : X) → Sound F n row → i < n
-      → F.system.step a (F.representative (row i)) ≡ some q → ((k : ℕ) → k < n → T (F.has (row k) q) → ⊥)
+      → F.system.step a (F.representative (row i)) ≡ Some q → ((k : ℕ) → k < n → T (F.has (row k) q) → ⊥)
       → Whole F q (row' n) → ((k : ℕ) → k < n → row' k ≡ row k) → Sound F (suc n) row'
   append_sound {n} {row} row' i a q S hi s f W e =
       let p = S.nonempty in
@@ -135,7 +134,7 @@ module _ {X Row : Type 0} (F : Frame X Row) (E : Framed F) where
   sound_many {n} {row} S = record { each = λ i. F.representative (row i); reached = λ i h. (S.rows i h).reached; apart = S.apart }
 
   -- and with a successor of one of them that is in no row there are n + 1.
-  pub new_many : {n : ℕ} {row : ℕ → Row} (i a : ℕ) (q : X) → Sound F n row → i < n → F.system.step a (F.representative (row i)) ≡ some q
+  pub new_many : {n : ℕ} {row : ℕ → Row} (i a : ℕ) (q : X) → Sound F n row → i < n → F.system.step a (F.representative (row i)) ≡ Some q
       → ((k : ℕ) → k < n → T (F.has (row k) q) → ⊥) → Many F.system F.start (suc n)
   new_many {n} {row} i a q S hi s f =
       record { each = λ k. pick k (dec_lt k n); reached = λ k h. reached k (dec_lt k n); apart = λ k m b h. apart k m b (dec_lt k n) (dec_lt m n) h }
@@ -162,11 +161,11 @@ module _ {X Row : Type 0} (F : Frame X Row) (E : Framed F) where
   together n row x y = (i : ℕ) × (i < n) × T (F.has (row i) x) × T (F.has (row i) y)
 
   -- an action that is barred for the representative of a sound row is barred for all of it
-  pub row_barred : (r : Row) (a : ℕ) (x : X) → SoundRow F r → T (F.has r x) → F.system.step a (F.representative r) ≡ none → F.system.step a x ≡ none
+  pub row_barred : (r : Row) (a : ℕ) (x : X) → SoundRow F r → T (F.has r x) → F.system.step a (F.representative r) ≡ None → F.system.step a x ≡ None
   row_barred r a x R t e =
       go (F.system.step a (F.representative r)) (E.opens (F.representative r) x (R.covered (F.representative r) R.holds) (R.covered x t) (R.regional x t) a) e
     where
-      go : (o : Option X) {u : Option X} → Both (λ (x' y' : X). Unit {0}) o u → o ≡ none → u ≡ none
+      go : (o : Option X) {u : Option X} → Both (λ (x' y' : X). Unit {0}) o u → o ≡ None → u ≡ None
       go o both_barred q = refl
       go o (both_open h) q = none_some q refl
 

@@ -1,10 +1,9 @@
 -- The numbering walk step by step, with an array of row numbers in order and an array of each row's place: the laws that the code's loop invariants
 -- are made of.
-use Rattle.std.specs.Prelude.{ℕ, zero, suc, ◌≤◌, ◌<◌, ◌≡◌, refl, ◌⊎◌, true, false, List, [], ◌∷◌, ◌++◌, T, length, get_or}
+use Rattle.std.specs.Prelude.{ℕ, zero, suc, ◌≤◌, ◌<◌, ◌≡◌, refl, ◌⊎◌, true, false, List, [], ◌∷◌, ◌++◌, T, length, get_or, None}
 use Rattle.std.proofs.Math.Decide.{dec_lt, ℕ_discrete, le_ind}
 use Rattle.std.proofs.Common.{arith, subst, ◌∙◌, inl, inr, ⊎_elim, eqb→eq, length-append}
 use Rattle.std.proofs.Math.Path.{sym, ap}
-use Rattle.std.proofs.Math.Option.{none}
 use Rattle.std.proofs.Math.Dec.{eqb, eqb_refl}
 use Rattle.std.proofs.Math.ListN.{get_or-append}
 use Rattle.std.proofs.Math.Seq.{get_or-append_seam}
@@ -99,7 +98,7 @@ numbered_first {order} {number} e z f =
     at zero h = z
     at (suc k) h = f (suc k) (omega arith) h ∙ sym (number_out (0 ∷ []) (suc k) (is_false (known eqb (0 ∷ []) (suc k)) (λ u. away k (known_member (0 ∷ []) (suc k) u))))
 
-added_none : (l : List ℕ) → added eqb l none ≡ l
+added_none : (l : List ℕ) → added eqb l None ≡ l
 unfolding added
 added_none l = refl
 

@@ -1,7 +1,6 @@
 -- The table of the algorithm: rows, each a representative with a set of configurations that holds its class. Sound tables, cuts, new rows, and what
 -- a stable table holds. Knows nothing of boxes.
-use Rattle.std.specs.Prelude.{ℕ, ◌≤◌, ◌<◌, ◌≡◌, ◌↔◌, Bool, T}
-use Rattle.std.proofs.Math.Option.{some, none}
+use Rattle.std.specs.Prelude.{ℕ, ◌≤◌, ◌<◌, ◌≡◌, ◌↔◌, Bool, T, Some, None}
 use Rattle.systems.specs.System.{System, Alike, Reached}
 use Rattle.systems.specs.Alike.{Both}
 
@@ -18,12 +17,12 @@ pub record Frame (X Row : Type 0) : Type 1 where
 -- Regions refine labels and barred actions, and are unions of classes.
 pub record Framed {X Row : Type 0} (F : Frame X Row) : Type 0 where
   pub starts : F.Covered F.start
-  pub closed : (a : ℕ) (x y : X) → F.Covered x → F.system.step a x ≡ some y → F.Covered y
+  pub closed : (a : ℕ) (x y : X) → F.Covered x → F.system.step a x ≡ Some y → F.Covered y
   pub labels : (x y : X) → F.Covered x → F.Covered y → F.region x ≡ F.region y → F.system.label x ≡ F.system.label y
   pub opens : (x y : X) → F.Covered x → F.Covered y → F.region x ≡ F.region y → (a : ℕ)
       → Both (λ (x' y' : X). Unit {0}) (F.system.step a x) (F.system.step a y)
   pub saturates : (x y : X) → F.Covered x → F.Covered y → Alike F.system F.system x y → F.region x ≡ F.region y
-  pub bounded : (a : ℕ) → F.actions ≤ a → (x : X) → F.system.step a x ≡ none
+  pub bounded : (a : ℕ) → F.actions ≤ a → (x : X) → F.system.step a x ≡ None
 
 -- A sound row: its representative is reached and in it, what is in it is covered and of the representative's region, and with a configuration
 -- all that are equivalent to it are in it.
@@ -44,7 +43,7 @@ pub record Sound {X Row : Type 0} (F : Frame X Row) (n : ℕ) (row : ℕ → Row
 -- action a leads from y into the row w
 pub record Leads {X Row : Type 0} (F : Frame X Row) (a : ℕ) (y : X) (w : Row) : Type 0 where
   pub next : X
-  pub leads : F.system.step a y ≡ some next
+  pub leads : F.system.step a y ≡ Some next
   pub inside : T (F.has w next)
 
 -- The row r' is the whole region of q, with q as its representative.
@@ -63,7 +62,7 @@ Settled {X} F a r w = (y : X) → T (F.has r y) → Leads F a y w
 
 -- Row r is stable for action a with the stored target t: the action is barred and t is 255, or it leads from all of r into row t.
 pub data StableAt {X Row : Type 0} (F : Frame X Row) (n : ℕ) (row : ℕ → Row) (r : Row) (a t : ℕ) : Type 0 where
-  stable_barred : F.system.step a (F.representative r) ≡ none → t ≡ 255 → StableAt F n row r a t
+  stable_barred : F.system.step a (F.representative r) ≡ None → t ≡ 255 → StableAt F n row r a t
   stable_open : t < n → Settled F a r (row t) → StableAt F n row r a t
 
 -- every row is stable for every action, with its stored targets

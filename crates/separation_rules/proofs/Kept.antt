@@ -1,7 +1,6 @@
 -- Actions that two systems lack part nothing: a sequence without them parts what the sequence parts, and is no later.
-use Rattle.std.specs.Prelude.{◌≡◌, refl, ◌⊎◌, List, [], ◌∷◌, ℕ, ◌≤◌, ◌<◌, length}
+use Rattle.std.specs.Prelude.{◌≡◌, refl, ◌⊎◌, List, [], ◌∷◌, ℕ, ◌≤◌, ◌<◌, length, Option, None}
 use Rattle.std.proofs.Common.{sym, ap, subst, ◌∙◌, inl, inr, arith}
-use Rattle.std.proofs.Math.Option.{Option, none}
 use Rattle.std.proofs.Math.Decide.{dec_lt}
 use Rattle.systems.specs.System.{System, after, entry, written, Below, below_nil, below_cons}
 use Rattle.systems.specs.Words.{Sooner, shorter}
@@ -44,12 +43,12 @@ kept_sooner {n} {v} {w} {u} K r = go (kept_length K)
 
 -- a barred action writes the same on both systems, and stays
 skipped : {X Y : Type 0} (s : System X) (t : System Y) (w : List ℕ) (x : X) (y : Y) → written s w x ≡ written t w y
-    → ◌≡◌ {A = List ℕ} (entry s none ∷ written s w (after x none)) (entry t none ∷ written t w (after y none))
+    → ◌≡◌ {A = List ℕ} (entry s None ∷ written s w (after x None)) (entry t None ∷ written t w (after y None))
 unfolding entry after
 skipped s t w x y q = ap (λ (l : List ℕ). 65535 ∷ l) q
 
 -- Where the sequence without them writes the same on both systems, so does the sequence.
-pub kept_written : {X Y : Type 0} (s : System X) (t : System Y) (n : ℕ) → ((a : ℕ) → n ≤ a → (x : X) → s.step a x ≡ none) → ((a : ℕ) → n ≤ a → (y : Y) → t.step a y ≡ none)
+pub kept_written : {X Y : Type 0} (s : System X) (t : System Y) (n : ℕ) → ((a : ℕ) → n ≤ a → (x : X) → s.step a x ≡ None) → ((a : ℕ) → n ≤ a → (y : Y) → t.step a y ≡ None)
     → {v w : List ℕ} → Kept n v w → (x : X) (y : Y) → written s v x ≡ written t v y → written s w x ≡ written t w y
 unfolding written
 kept_written s t n f g kept_nil x y e = refl

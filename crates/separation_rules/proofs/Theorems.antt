@@ -1,9 +1,8 @@
 -- What holds of the evidence on the definitions: there is none just when no sequence of whatever length parts the charts, which for charts that obey the chart
 -- rules is so just when their bytes are equal; else it is what is promised of it.
-use Rattle.std.specs.Prelude.{◌≡◌, refl, ◌↔◌, Bool, true, false, not, ℕ, ◌+◌, ◌-◌, ◌≤◌, ◌<◌, T, length}
+use Rattle.std.specs.Prelude.{◌≡◌, refl, ◌↔◌, Bool, true, false, not, ℕ, ◌+◌, ◌-◌, ◌≤◌, ◌<◌, T, length, Option, Some, None}
 use Rattle.std.proofs.Common.{sym, ap, ◌∙◌}
 use mathlib.Core.List.{List, ◌∷◌}
-use Rattle.std.proofs.Math.Option.{Option, some, none}
 use native.Mathlib.Omega.{arith}
 use Rattle.integers.specs.LittleEndian.{Bytes}
 use Rattle.systems.proofs.Laws.{not_tells}
@@ -47,29 +46,29 @@ shorter_than u w (as_long e b) l = omega arith
 
 -- The evidence is known where a sequence is known that parts the charts with none before it, or that none does.
 pub evidence_some : (c d w : List ℕ) → Shorter (actions_of c) (blocks_of c + blocks_of d) w → (chart_reading c w ≡ chart_reading d w → ⊥)
-    → ((v : List ℕ) → Sooner v w → chart_reading c v ≡ chart_reading d v) → evidence c d ≡ some w
+    → ((v : List ℕ) → Sooner v w → chart_reading c v ≡ chart_reading d v) → evidence c d ≡ Some w
 unfolding evidence
 evidence_some c d w K n f =
     sequence_found (actions_of c) (blocks_of c + blocks_of d) (parts_charts c d) w K ((parts_tells c d w).1 n) (λ v t r. (parts_tells c d v).0 t (f v r))
 
-pub evidence_none : (c d : List ℕ) → EqualBehaviour c d → evidence c d ≡ none
+pub evidence_none : (c d : List ℕ) → EqualBehaviour c d → evidence c d ≡ None
 unfolding evidence
 evidence_none c d h = go (first_that (parts_charts c d) (shorter_lists (actions_of c) (blocks_of c + blocks_of d))) (search_sequences (actions_of c) (blocks_of c + blocks_of d) (parts_charts c d))
   where
-    go : (o : Option (List ℕ)) → Found Sooner (Shorter (actions_of c) (blocks_of c + blocks_of d)) (parts_charts c d) o → o ≡ none
-    go none F = refl
-    go (some w) (found K t f) = absurd ((parts_tells c d w).0 t (h w))
+    go : (o : Option (List ℕ)) → Found Sooner (Shorter (actions_of c) (blocks_of c + blocks_of d)) (parts_charts c d) o → o ≡ None
+    go None F = refl
+    go (Some w) (found K t f) = absurd ((parts_tells c d w).0 t (h w))
 
 -- All that comes before the evidence reads the same on both charts, its own beginnings too: so of its readings the last entries alone differ.
 pub same_before : (c d w v : List ℕ) → IsEvidence c d w → Sooner v w → chart_reading c v ≡ chart_reading d v
 same_before c d w v I r = same_unless c d v (λ t. I.first v ((parts_tells c d v).0 t) r)
 
 module _ (c d : List ℕ) (R : ChartRules c) (S : ChartRules d) (e : actions_of c ≡ actions_of d) where
-  out_first : (b : ℕ) → actions_of c ≤ b → (i : ℕ) → (chart_system c).step b i ≡ none
+  out_first : (b : ℕ) → actions_of c ≤ b → (i : ℕ) → (chart_system c).step b i ≡ None
   unfolding chart_system
   out_first b h i = chart_step_out c b i h
 
-  out_second : (b : ℕ) → actions_of c ≤ b → (i : ℕ) → (chart_system d).step b i ≡ none
+  out_second : (b : ℕ) → actions_of c ≤ b → (i : ℕ) → (chart_system d).step b i ≡ None
   unfolding chart_system
   out_second b h i = chart_step_out d b i (omega arith)
 
@@ -81,7 +80,7 @@ module _ (c d : List ℕ) (R : ChartRules c) (S : ChartRules d) (e : actions_of 
       R.blocks_some S.blocks_some
       (alike_to_below (chart_system c) (chart_system d) (actions_of c) out_first out_second (blocks_of c + blocks_of d - 1) 0 0 (λ w p. f w p.0 p.1))
     where
-      closed : (c : List ℕ) → ChartRules c → (a i j : ℕ) → i < blocks_of c → (chart_system c).step a i ≡ some j → j < blocks_of c
+      closed : (c : List ℕ) → ChartRules c → (a i j : ℕ) → i < blocks_of c → (chart_system c).step a i ≡ Some j → j < blocks_of c
       closed c R a i j h q = chart_closed c R.blocks_few R.targets_right a i j h q
 
   -- what sequences without actions that the charts lack read decides
@@ -114,8 +113,8 @@ module _ (c d : List ℕ) (R : ChartRules c) (S : ChartRules d) (e : actions_of 
   evidence_judges = go (first_that (parts_charts c d) (shorter_lists (actions_of c) (blocks_of c + blocks_of d))) (search_sequences (actions_of c) (blocks_of c + blocks_of d) (parts_charts c d))
     where
       go : (o : Option (List ℕ)) → Found Sooner (Shorter (actions_of c) (blocks_of c + blocks_of d)) (parts_charts c d) o → Judges c d o
-      go none (nothing f) = equal (short_enough (λ w b l. same_unless c d w (f w (record { short = within w l; of_actions = b }))))
-      go (some w) (found K t f) =
+      go None (nothing f) = equal (short_enough (λ w b l. same_unless c d w (f w (record { short = within w l; of_actions = b }))))
+      go (Some w) (found K t f) =
           let n = (parts_tells c d w).0 t in
           let l = K.short in
           parted
@@ -130,12 +129,12 @@ module _ (c d : List ℕ) (R : ChartRules c) (S : ChartRules d) (e : actions_of 
           })
 
   -- Nothing is found only where the charts are equal in behaviour.
-  pub none_equal : evidence c d ≡ none → EqualBehaviour c d
+  pub none_equal : evidence c d ≡ None → EqualBehaviour c d
   none_equal q = go (evidence c d) q evidence_judges
     where
-      go : (o : Option (List ℕ)) → o ≡ none → Judges c d o → EqualBehaviour c d
-      go none q (equal h) = h
-      go (some w) q J = let z : ◌≡◌ {A = ℕ} 0 1 = cc in absurd (omega arith)
+      go : (o : Option (List ℕ)) → o ≡ None → Judges c d o → EqualBehaviour c d
+      go None q (equal h) = h
+      go (Some w) q J = let z : ◌≡◌ {A = ℕ} 0 1 = cc in absurd (omega arith)
 
   -- Two charts that obey the chart rules, whoever made them, are equal in behaviour just when their bytes are equal.
   pub equal_bytes : Bytes c → Bytes d → EqualBehaviour c d ↔ (c ≡ d)

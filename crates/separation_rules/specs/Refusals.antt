@@ -1,7 +1,6 @@
 -- What is refused, and in which order, on the bytes of two charts. A refusal changes nothing.
 use Rattle.std.specs.Prelude.{List, ℕ, length}
-use Rattle.separation_rules.specs.declared.Separation.{Separation}
-use Rattle.separation_rules.specs.Separation.{evidence, pair_check, separated_by, left_by}
+use Rattle.separation_rules.specs.Separation.{Separation, evidence, pair_check, separated_by, left_by}
 
 -- what a call answers for the charts c and d, and what the buffer then holds that held old before
 abbrev pub answered : List ℕ → List ℕ → List ℕ → Separation

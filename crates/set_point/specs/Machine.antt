@@ -1,5 +1,5 @@
 -- The machine's side of a set-point: what the division computes on the way fits, and is what was meant.
-use Rattle.std.specs.Prelude.{◌≡◌, Bool, true, false, cond, ◌&&◌, ℕ, ℤ, pos, negsuc, ◌-ℤ◌, ◌*ℤ◌, ◌<ℤ◌}
+use Rattle.std.specs.Prelude.{◌≡◌, Bool, true, false, cond, ◌&&◌, ℕ, ℤ, pos, negsuc, ◌-ℤ◌, ◌*ℤ◌, ◌<ℤ◌, Ok, Err}
 use Rattle.std.proofs.Common.{sym, subst, ◌∙◌, lit≤, SFits}
 use Rattle.std.proofs.Math.Path.{ap}
 use Rattle.std.specs.Int.{w64}
@@ -13,10 +13,14 @@ use Rattle.integers.specs.Inverse.{inverse}
 use Rattle.model.specs.declared.Rule.{Rule}
 use Rattle.model.specs.declared.Rule.TheVariants.{Set, Carry}
 use Rattle.set_point_rules.specs.declared.SetPoint.{SetPoint}
-use Rattle.set_point_rules.specs.declared.SetPoint.TheVariants.{Done, Refused}
 use Rattle.set_point_rules.specs.Euclid.{quotient, remainder}
 use Rattle.set_point_rules.proofs.Euclid.{quotient_pos, quotient_neg, quotient_within}
 use Rattle.set_point_rules.specs.SetPoint.{allowed, solution, set_point}
+use Rattle.answer_rules.specs.declared.Reason.TheVariants.{NoSetPoint}
+use Rattle.answer_rules.specs.declared.Refusal.{Refusal}
+use Rattle.answer_rules.specs.Refusal.{Checked, at}
+use Rattle.answer_rules.specs.Stages.{demand}
+use Rattle.answer_rules.proofs.Stages.{demand_where}
 
 -- a conjunction as code finds it: its first part holds, so it is the second; or its first part does not
 pub conj_second : {t u : Bool} (a b : Bool) → t ≡ a → t ≡ true → u ≡ b → u ≡ (a && b)
@@ -79,7 +83,11 @@ module _ {f b y x : ℤ} (wf : Within 100 f) (wb : Within 200000000 b) (wy : Wit
   pub left_fits : SFits w64 (back64 (back64 y -ℤ back64 b) -ℤ back64 (back64 f *ℤ back64 x))
   left_fits = within_fits left_within (lit≤ tt)
 
-  pub divided : Done (back64 x) (back64 (back64 (back64 y -ℤ back64 b) -ℤ back64 (back64 f *ℤ back64 x))) ≡ solution f b y
+  -- the answer with an old value and a remainder
+  abbrev point : ℤ → ℤ → SetPoint
+  point z r = record { old = z; remainder = r }
+
+  pub divided : point (back64 x) (back64 (back64 (back64 y -ℤ back64 b) -ℤ back64 (back64 f *ℤ back64 x))) ≡ solution f b y
   unfolding remainder
   divided =
       let n = back64 y -ℤ back64 b in
@@ -90,20 +98,22 @@ module _ {f b y x : ℤ} (wf : Within 100 f) (wb : Within 200000000 b) (wy : Wit
       let rf = within_read (lit≤ tt) wf in
       let rb = within_read (lit≤ tt) wb in
       let ry = within_read (lit≤ tt) wy in
-      ap (Done (back64 x)) (first ∙ second) ∙ ap (λ (z : ℤ). Done z (n -ℤ (back64 f *ℤ z))) old ∙ (λ i. solution (rf i) (rb i) (ry i))
+      ap (point (back64 x)) (first ∙ second) ∙ ap (λ (z : ℤ). point z (n -ℤ (back64 f *ℤ z))) old ∙ (λ i. solution (rf i) (rb i) (ry i))
 
 -- a rule that is no carry, or one beyond the limits, is refused; any other has what the division gives
-pub point_set : {rule : Rule} {b : ℤ} (y : ℤ) → rule ≡ Set b → Refused 19 0 ≡ set_point rule y
+pub point_set : {rule : Rule} {b : ℤ} {why : Refusal} (y : ℤ) → rule ≡ Set b → why ≡ at NoSetPoint 0 → Err why ≡ set_point rule y
 unfolding set_point
-point_set y e = sym (ap (λ (r : Rule). set_point r y) e)
+point_set y e q = ap Err q ∙ sym (ap (λ (r : Rule). set_point r y) e)
 
-pub point_beyond : {rule : Rule} {source : ℕ} {f b : ℤ} (y : ℤ) → rule ≡ Carry source f b → allowed f b y ≡ false → Refused 19 0 ≡ set_point rule y
+pub point_beyond : {rule : Rule} {source : ℕ} {f b : ℤ} {t : Bool} {why : Refusal} {r : Checked} (y : ℤ) → rule ≡ Carry source f b → t ≡ allowed f b y
+    → r ≡ demand t (at NoSetPoint 0) → r ≡ Err why → Err why ≡ set_point rule y
 unfolding set_point
-point_beyond {f = f} {b = b} y e h =
-    sym (ap (λ (r : Rule). set_point r y) e ∙ ap (λ (t : Bool). cond t (solution f b y) (Refused 19 0)) h)
+point_beyond {f = f} {b = b} {t = t} y e h d k =
+    let (u, q) = demand_where t (at NoSetPoint 0) (sym d ∙ k) in
+    ap Err q ∙ sym (ap (λ (r : Rule). set_point r y) e ∙ ap (λ (t : Bool). cond t (Ok (solution f b y)) (Err (at NoSetPoint 0))) (sym h ∙ u))
 
 pub point_divided : {rule : Rule} {source : ℕ} {f b : ℤ} {p : SetPoint} (y : ℤ) → rule ≡ Carry source f b → allowed f b y ≡ true
-    → p ≡ solution f b y → p ≡ set_point rule y
+    → p ≡ solution f b y → Ok p ≡ set_point rule y
 unfolding set_point
 point_divided {f = f} {b = b} y e h k =
-    k ∙ sym (ap (λ (r : Rule). set_point r y) e ∙ ap (λ (t : Bool). cond t (solution f b y) (Refused 19 0)) h)
+    ap Ok k ∙ sym (ap (λ (r : Rule). set_point r y) e ∙ ap (λ (t : Bool). cond t (Ok (solution f b y)) (Err (at NoSetPoint 0))) h)

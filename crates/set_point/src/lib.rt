@@ -7,6 +7,7 @@ ghost use Rattle.integers.specs.Range.{Within};
 ghost use Rattle.set_point_rules.specs.Euclid.{quotient};
 ghost use Rattle.set_point_rules.specs.SetPoint.{factor_allowed, allowed, solution, set_point};
 
+use answers::{Reason, Refusal, demanded};
 use integers::Range;
 use machine_integers::division::inverse_range;
 use machine_integers::ranges::near_zero;
@@ -56,25 +57,16 @@ fn divide(factor: i64, offset: i64, wanted: i64) -> SetPoint
 {
     let old = old_value(factor, offset, wanted);
     let remainder = wanted - offset - factor * old;
-    SetPoint::Done { old, remainder }
+    SetPoint { old, remainder }
 }
 
-// The set-point of a rule for a wanted value, or refusal 19.
-pub fn find(rule: Rule, wanted: i64) -> SetPoint
+/// The set-point of a rule for a wanted value, or refusal 19.
+pub fn find(rule: Rule, wanted: i64) -> Result<SetPoint, Refusal>
     ensures { result ≡ set_point rule wanted }
 {
     let Rule::Carry { factor, offset, .. } = rule else {
-        return SetPoint::Refused {
-            number: 19,
-            returned: 0,
-        };
+        return Err(Reason::NoSetPoint.at(0));
     };
-    if is_allowed(factor, offset, wanted) {
-        divide(factor, offset, wanted)
-    } else {
-        SetPoint::Refused {
-            number: 19,
-            returned: 0,
-        }
-    }
+    demanded(is_allowed(factor, offset, wanted), Reason::NoSetPoint.at(0))?;
+    Ok(divide(factor, offset, wanted))
 }

@@ -3,35 +3,20 @@
 #![tactic(auto)]
 
 use model::Rule;
-use set_point::SetPoint;
+use set_point::find;
 use std::io;
-use text::{put, put_signed};
-
-fn put_point(rt: &impl Print, point: SetPoint) -> io::Result<()> {
-    match point {
-        SetPoint::Done { old, remainder } => {
-            put(rt, b"old ")?;
-            put_signed(rt, old)?;
-            put(rt, b" remainder ")?;
-            put_signed(rt, remainder)?;
-            put(rt, b"\n")
-        }
-        SetPoint::Refused { number, returned } => text::put_refusal(rt, number, returned),
-    }
-}
 
 fn show(rt: &impl Print, source: usize, factor: i64) -> io::Result<()> {
-    put(rt, b"carry x")?;
-    text::put_number(rt, source as u64)?;
-    put(rt, b" factor ")?;
-    put_signed(rt, factor)?;
-    put(rt, b" offset 5 to 16: ")?;
+    print!(rt; "carry x{source} factor {factor} offset 5 to 16: ")?;
     let rule = Rule::Carry {
         source,
         factor,
         offset: 5,
     };
-    put_point(rt, set_point::find(rule, 16))
+    match find(rule, 16) {
+        Ok(point) => println!(rt; "old {} remainder {}", point.old, point.remainder),
+        Err(refusal) => println!(rt; "{refusal}"),
+    }
 }
 
 fn main(rt: HostRuntime) -> io::Result<()> {

@@ -1,6 +1,6 @@
 -- What is promised of set-points.
-use Rattle.std.specs.Prelude.{◌≡◌, refl, Bool, true, false, cond, ◌&&◌, not, List, ℕ, ◌+◌, ◌≤◌, get_or, ℤ, pos, negsuc, nat_abs, ◌-ℤ◌, ◌*ℤ◌, ◌≤ℤ◌, ◌<ℤ◌}
-use Rattle.std.proofs.Common.{sym, ap, subst, ◌∙◌, arith}
+use Rattle.std.specs.Prelude.{◌≡◌, refl, Bool, true, false, cond, ◌&&◌, not, List, ℕ, ◌+◌, ◌≤◌, get_or, ℤ, pos, negsuc, nat_abs, ◌-ℤ◌, ◌*ℤ◌, ◌≤ℤ◌, ◌<ℤ◌, Ok, Err}
+use Rattle.std.proofs.Common.{sym, ap, subst, ◌∙◌}
 use Rattle.integers.specs.Order.{up, dn}
 use Rattle.integers.proofs.Order.{ints, eq_out, add_parts, sub_parts}
 use Rattle.integers.specs.Range.{near, Within}
@@ -11,10 +11,12 @@ use Rattle.systems.proofs.Laws.{both, true_is, is_true}
 use Rattle.model.specs.declared.Rule.{Rule}
 use Rattle.model.specs.declared.Rule.TheVariants.{Set, Carry}
 use Rattle.model.specs.Sheet.{applied, RuleFits, carry_fits}
-use Rattle.set_point_rules.specs.declared.SetPoint.TheVariants.{Done, Refused}
+use Rattle.set_point_rules.specs.declared.SetPoint.{SetPoint}
 use Rattle.set_point_rules.specs.Euclid.{Euclid, quotient, remainder}
 use Rattle.set_point_rules.proofs.Euclid.{divides, divides_only, quotient_pos, quotient_neg, quotient_within}
 use Rattle.set_point_rules.specs.SetPoint.{factor_allowed, allowed, solution, set_point, Asked, asked, Answers}
+use Rattle.answer_rules.specs.declared.Reason.TheVariants.{NoSetPoint}
+use Rattle.answer_rules.specs.Refusal.{at}
 
 -- the limits as a test and as propositions
 pub allowed_limits : (f b y : ℤ) → allowed f b y ≡ true → (f ≡ pos 0 → ⊥) × (Within 100 f × (Within 200000000 b × Within 1000000 y))
@@ -32,30 +34,30 @@ limits_allowed {f} {b} {y} n wf wb wy =
 
 -- a carry rule within the limits is answered, by quotient and remainder
 pub asked_answered : {source : ℕ} {f b y : ℤ} → Asked (Carry source f b) y
-    → set_point (Carry source f b) y ≡ solution f b y
+    → set_point (Carry source f b) y ≡ Ok (solution f b y)
 unfolding set_point
 asked_answered {source} {f} {b} {y} (asked n wf wb wy) =
-    ap (λ (t : Bool). cond t (solution f b y) (Refused 19 0)) (limits_allowed n wf wb wy)
+    ap (λ (t : Bool). cond t (Ok (solution f b y)) (Err (at NoSetPoint 0))) (limits_allowed n wf wb wy)
 
 -- every other rule and wanted value is refused
-pub unasked_refused : (rule : Rule) (y : ℤ) → (Asked rule y → ⊥) → set_point rule y ≡ Refused 19 0
+pub unasked_refused : (rule : Rule) (y : ℤ) → (Asked rule y → ⊥) → set_point rule y ≡ Err (at NoSetPoint 0)
 unfolding set_point
 unasked_refused (Set b) y h = refl
 unasked_refused (Carry source f b) y h = go (allowed f b y) refl
   where
-    go : (t : Bool) → allowed f b y ≡ t → cond t (solution f b y) (Refused 19 0) ≡ Refused 19 0
+    go : (t : Bool) → allowed f b y ≡ t → cond t (Ok (solution f b y)) (Err (at NoSetPoint 0)) ≡ Err (at NoSetPoint 0)
     go true e = let (n, (wf, (wb, wy))) = allowed_limits f b y e in absurd (h (asked n wf wb wy))
     go false e = refl
 
 -- so what is answered was asked so
-pub answered_asked : (rule : Rule) (y x r : ℤ) → set_point rule y ≡ Done x r → Asked rule y
+pub answered_asked : (rule : Rule) (y x r : ℤ) → set_point rule y ≡ Ok (record { old = x; remainder = r }) → Asked rule y
 unfolding set_point
-answered_asked (Set b) y x r e = let z : ◌≡◌ {A = ℕ} 0 1 = cc in absurd (omega arith)
+answered_asked (Set b) y x r e = absurd cc
 answered_asked (Carry source f b) y x r e = go (allowed f b y) refl e
   where
-    go : (t : Bool) → allowed f b y ≡ t → cond t (solution f b y) (Refused 19 0) ≡ Done x r → Asked (Carry source f b) y
+    go : (t : Bool) → allowed f b y ≡ t → cond t (Ok (solution f b y)) (Err (at NoSetPoint 0)) ≡ Ok (record { old = x; remainder = r }) → Asked (Carry source f b) y
     go true d k = let (n, (wf, (wb, wy))) = allowed_limits f b y d in asked n wf wb wy
-    go false d k = let z : ◌≡◌ {A = ℕ} 0 1 = cc in absurd (omega arith)
+    go false d k = absurd cc
 
 -- What is promised holds of quotient and remainder.
 quotient_answers : (f b y : ℤ) → (f ≡ pos 0 → ⊥) → Answers f b y (quotient (y -ℤ b) f) (remainder (y -ℤ b) f)
@@ -72,18 +74,19 @@ quotient_answers f b y n =
     }
 
 -- and so of every answer
-pub set_point_answers : (source : ℕ) (f b y x r : ℤ) → set_point (Carry source f b) y ≡ Done x r → Answers f b y x r
+pub set_point_answers : (source : ℕ) (f b y x r : ℤ) → set_point (Carry source f b) y ≡ Ok (record { old = x; remainder = r }) → Answers f b y x r
 set_point_answers source f b y x r e = go (answered_asked (Carry source f b) y x r e)
   where
     go : Asked (Carry source f b) y → Answers f b y x r
     go (asked n wf wb wy) =
         let d = asked_answered {source = source} (asked n wf wb wy) in
-        let p : quotient (y -ℤ b) f ≡ x = cc in
-        let q : remainder (y -ℤ b) f ≡ r = cc in
+        let s : ◌≡◌ {A = SetPoint} (solution f b y) (record { old = x; remainder = r }) = cc in
+        let p : quotient (y -ℤ b) f ≡ x = ap (λ (p : SetPoint). p.old) s in
+        let q : remainder (y -ℤ b) f ≡ r = ap (λ (p : SetPoint). p.remainder) s in
         subst (λ (u : ℤ). Answers f b y u r) p (subst (λ (v : ℤ). Answers f b y (quotient (y -ℤ b) f) v) q (quotient_answers f b y n))
 
 -- In the words of a sheet: where the rule's source has the old value x, the counter's new value is y - r.
-pub rule_gives : (source : ℕ) (f b y x r : ℤ) (old : List ℤ) → set_point (Carry source f b) y ≡ Done x r → get_or old source (pos 0) ≡ x
+pub rule_gives : (source : ℕ) (f b y x r : ℤ) (old : List ℤ) → set_point (Carry source f b) y ≡ Ok (record { old = x; remainder = r }) → get_or old source (pos 0) ≡ x
     → applied (Carry source f b) old ≡ y -ℤ r
 unfolding applied
 rule_gives source f b y x r old e d = ap (carried f b) d ∙ (set_point_answers source f b y x r e).gives
@@ -93,7 +96,7 @@ pub fits_asked : {V# source : ℕ} {f b y : ℤ} → RuleFits V# (Carry source f
 fits_asked (carry_fits l n wf wb) wy = asked n wf wb wy
 
 -- how large an answer can be
-pub answer_small : (source : ℕ) (f b y x r : ℤ) → set_point (Carry source f b) y ≡ Done x r → Within 201000000 x × Within 99 r
+pub answer_small : (source : ℕ) (f b y x r : ℤ) → set_point (Carry source f b) y ≡ Ok (record { old = x; remainder = r }) → Within 201000000 x × Within 99 r
 answer_small source f b y x r e = go (answered_asked (Carry source f b) y x r e) (set_point_answers source f b y x r e).divided
   where
     small : (f r : ℤ) → Within 100 f → pos 0 ≤ℤ r → r <ℤ pos (nat_abs f) → up r + dn r ≤ 99

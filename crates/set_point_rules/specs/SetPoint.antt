@@ -1,12 +1,14 @@
 -- The set-point of a rule (document 02, U8): which old value brings a counter to, or just below, a wanted value. Definitions only.
-use Rattle.std.specs.Prelude.{◌≡◌, Bool, cond, ◌&&◌, not, ℕ, ℤ, pos, ◌-ℤ◌, ◌≤ℤ◌, ◌<ℤ◌}
+use Rattle.std.specs.Prelude.{◌≡◌, Bool, cond, ◌&&◌, not, ℕ, ℤ, pos, ◌-ℤ◌, ◌≤ℤ◌, ◌<ℤ◌, Result, Ok, Err}
 use Rattle.integers.specs.Range.{near, Within}
 use Rattle.integers.specs.Inverse.{carried, Least, Greatest}
 use Rattle.model.specs.declared.Rule.{Rule}
 use Rattle.model.specs.declared.Rule.TheVariants.{Set, Carry}
 use Rattle.set_point_rules.specs.declared.SetPoint.{SetPoint}
-use Rattle.set_point_rules.specs.declared.SetPoint.TheVariants.{Done, Refused}
 use Rattle.set_point_rules.specs.Euclid.{Euclid, quotient, remainder}
+use Rattle.answer_rules.specs.declared.Reason.TheVariants.{NoSetPoint}
+use Rattle.answer_rules.specs.declared.Refusal.{Refusal}
+use Rattle.answer_rules.specs.Refusal.{at}
 
 -- a factor is from -100 to 100 and not 0
 unfoldable pub factor_allowed : ℤ → Bool
@@ -18,12 +20,12 @@ allowed f b y = (factor_allowed f && near 200000000 b) && near 1000000 y
 
 -- x and r of Euclid's division of y - b by f
 abbrev pub solution : ℤ → ℤ → ℤ → SetPoint
-solution f b y = Done (quotient (y -ℤ b) f) (remainder (y -ℤ b) f)
+solution f b y = record { old = quotient (y -ℤ b) f; remainder = remainder (y -ℤ b) f }
 
 -- The answer for a rule and a wanted value y. The source plays no part.
-unfoldable pub set_point : Rule → ℤ → SetPoint
-set_point (Set b) y = Refused 19 0
-set_point (Carry source f b) y = cond (allowed f b y) (solution f b y) (Refused 19 0)
+unfoldable pub set_point : Rule → ℤ → Result SetPoint Refusal
+set_point (Set b) y = Err (at NoSetPoint 0)
+set_point (Carry source f b) y = cond (allowed f b y) (Ok (solution f b y)) (Err (at NoSetPoint 0))
 
 -- what is answered, as a proposition: a carry rule with allowed factor and offset, of whatever source, and y within its bounds
 pub data Asked : Rule → ℤ → Type 0 where

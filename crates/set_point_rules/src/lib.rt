@@ -3,9 +3,9 @@
 // Public: no function asks anything of its caller, and each contract gives the answer as a definition does.
 #![tactic(auto)]
 
-// The old value, with what its new value is below the wanted one; or a refusal.
-#[derive(Clone, Copy)]
-pub enum SetPoint {
-    Done { old: i64, remainder: i64 },
-    Refused { number: u8, returned: usize },
+/// The old value, and how far its new value is below the wanted one.
+#[derive(Clone, Copy, Debug, PartialEq, Eq, Hash)]
+pub struct SetPoint {
+    pub old: i64,
+    pub remainder: i64,
 }

@@ -1,9 +1,8 @@
 -- The walk of an action sequence on an accepted sheet: the code's configuration, its region, and the entries written.
-use Rattle.std.specs.Prelude.{◌≡◌, true, false, ◌&&◌, ℕ, zero, suc, ◌+◌, ◌≤◌, ◌<◌, length, get_or, set, ℤ}
+use Rattle.std.specs.Prelude.{◌≡◌, refl, Bool, true, false, not, unwrap_or, is_some, IfSome, ◌&&◌, ℕ, zero, suc, ◌+◌, ◌≤◌, ◌<◌, length, get_or, set, ℤ, Some, None, Ok, Option}
 use Rattle.std.proofs.Math.Path.{sym, ap, subst}
 use Rattle.std.proofs.Common.{◌∙◌, arith}
 use mathlib.Core.List.{List}
-use Rattle.std.proofs.Math.Option.{some, none}
 use Rattle.std.proofs.Math.Dec.{T}
 use Rattle.std.proofs.Math.IntN.{pos}
 use Rattle.integers.proofs.Order.{ints}
@@ -12,10 +11,6 @@ use Rattle.integers.specs.declared.Range.{Range}
 use Rattle.integers.specs.Range.{contains, Within, RangeWithin}
 use Rattle.integers.proofs.RangeLaws.{contains_le, within_zero}
 use Rattle.systems.proofs.Laws.{both}
-use Rattle.answer_rules.specs.declared.Checked.TheVariants.{Fine}
-use Rattle.answer_rules.specs.declared.FirstBarred.{FirstBarred}
-use Rattle.answer_rules.specs.declared.FirstBarred.TheVariants.{Nothing}
-use Rattle.answer_rules.specs.declared.Ran.TheVariants.{Done}
 use Rattle.answer_rules.proofs.Stages.{then_fine}
 use Rattle.answer_rules.specs.Run.{run_checks, noted_at, ran_by, left_by}
 use Rattle.answer_rules.specs.Sequence.{Runs}
@@ -27,21 +22,18 @@ use Rattle.model.specs.Sheet as Model
 use Rattle.model.specs.Sheet.{Configuration, Box, Region, Covered, WellFormed, within, in_box, applied, moved, step, region_of, region_number, sheet_system, sheet_reading, RuleFits, Each, MoveFits, open_fits}
 use Rattle.model.proofs.Boxes.{in_box_parts}
 use Rattle.model.proofs.Classes.{covered_in}
-use Rattle.sheet_bytes.specs.declared.Shape.{Shape}
 use Rattle.sheet_bytes.specs.declared.Ranges.{Ranges}
 use Rattle.sheet_bytes.specs.declared.Values.{Values}
 use Rattle.sheet_bytes.specs.declared.Config.{Config}
-use Rattle.sheet_bytes.specs.declared.Move.{Move}
-use Rattle.sheet_bytes.specs.declared.Move.TheVariants.{Barred, Open}
 use Rattle.sheet_bytes.specs.declared.RegionMove.{RegionMove}
 use Rattle.sheet_rules.specs.Layout.{counters_of, actions_of, regions_of, start_value, label_at, move_part}
 use Rattle.sheet_rules.specs.Decode.{rule_at, move_at, region_at, start_of, decode}
-use Rattle.sheet_bytes.specs.Three.{Read, firsts, ranges_meant, values_meant, rules_meant, box_meant, config_meant, move_meant, move_of_kind, padded, padded_out, zero_rule, box_three, start_three, move_three, box_meant_lem, start_meant, move_meant_lem}
+use Rattle.sheet_bytes.specs.Three.{firsts, ranges_meant, values_meant, rules_meant, box_meant, config_meant, move_meant, padded, padded_out, zero_rule, box_three, start_three, move_three, open_read, box_meant_lem, start_meant, move_meant_lem}
 use Rattle.sheet_bytes.specs.Space.{RulesSafe, ValuesWithin, all_three, land_three, land_meant, fits_safe}
 use Rattle.sheet_bytes.specs.Bounds.{RangesWithin}
 use Rattle.sheet_rules.proofs.Fits.{moves_fit}
 use Rattle.sheet_form.specs.BoxFits.{box_fits}
-use Rattle.sheet.specs.declared.walk.Acted.{Acted}
+use Rattle.sheet.specs.declared.walk.Place.{Place}
 use Rattle.sheet_rules.specs.Check.{sheet_check}
 use Rattle.sheet_regions.specs.Landing.{Passed}
 use Rattle.sheet_regions.specs.Shares.{countable}
@@ -101,18 +93,39 @@ pub record At (s : List ℕ) (x : Config) (i : ℕ) : Type 0 where
   pub there : i < regions_of s
   pub spare : Spare (counters_of s) x.values
 
--- What one action does from a configuration: where the walk is then, the entry that it writes, and whether it was barred.
-pub record Acts (s : List ℕ) (x : Config) (a : ℕ) (r : Acted) : Type 0 where
-  pub place : At s r.config r.region
-  pub took : AnyWalk.Took (sheet_system (decode s)) (config_meant (counters_of s) x) (step (decode s) a (config_meant (counters_of s) x))
-      (config_meant (counters_of s) r.config) r.entry r.barred
+-- what an action writes: the label where it leads, 65,535 if it is barred
+unfoldable pub entry_by : List ℕ → Option Place → ℕ
+entry_by s None = 65535
+entry_by s (Some to) = label_at s to.region
+
+-- What one action does from a place: where the walk is then, what is written, and whether the action was barred. A barred one leaves the walk where it is.
+pub record Acts (s : List ℕ) (from : Place) (a : ℕ) (next : Option Place) : Type 0 where
+  pub place : At s (unwrap_or next from).config (unwrap_or next from).region
+  pub took : AnyWalk.Took (sheet_system (decode s)) (config_meant (counters_of s) from.config) (step (decode s) a (config_meant (counters_of s) from.config))
+      (config_meant (counters_of s) (unwrap_or next from).config) (entry_by s next) (AnyWalk.is_barred next)
+
+-- where it leads is a region of the sheet
+pub acts_within : {s : List ℕ} {from : Place} {a n : ℕ} {next : Option Place} → Acts s from a next → n ≡ regions_of s → IfSome next (λ to. to.region < n)
+acts_within {s} {from} {n = n} {next = next} k e = go next k.place
+  where
+    go : (o : Option Place) → At s (unwrap_or o from).config (unwrap_or o from).region → IfSome o (λ to. to.region < n)
+    go None p = tt
+    go (Some to) p = omega (arith, p.there, e)
+
+-- whether there is none
+pub barred_is : {A : Type 0} (o : Option A) {r : Bool} → is_some o ≡ not r → r ≡ AnyWalk.is_barred o
+unfolding AnyWalk.is_barred
+barred_is None {r = true} e = refl
+barred_is None {r = false} e = absurd cc
+barred_is (Some x) {r = true} e = absurd cc
+barred_is (Some x) {r = false} e = refl
 
 -- a padded rule past the counters sets to 0
 spare_rule : (f : ℕ → Rule) (n v : ℕ) (old : List ℤ) → n ≤ v → applied (padded zero_rule f n v) old ≡ pos 0
 unfolding applied
 spare_rule f n v old h = ap (λ (r : Rule). applied r old) (padded_out zero_rule f n v h)
 
-module _ (s : List ℕ) (B : Bytes s) (e : sheet_check s ≡ Fine) where
+module _ (s : List ℕ) (B : Bytes s) (e : sheet_check s ≡ Ok tt) where
   S : Stages s
   S = stages s e
 
@@ -157,131 +170,131 @@ module _ (s : List ℕ) (B : Bytes s) (e : sheet_check s ≡ Fine) where
         };
       }) q
 
-  module _ (x : Config) (i a : ℕ) (k : At s x i) (h : a < actions_of s) (m : RegionMove) (d : m ≡ move_three (counters_of s) (move_part s i a)) where
+  module _ (x : Config) (i a : ℕ) (k : At s x i) (h : a < actions_of s) (o : Option RegionMove) (d : o ≡ move_three (counters_of s) (move_part s i a)) where
     P : Passed s
     P = record { fields = S.fields; apart = S.apart }
 
     -- what the action does there
-    does : step (decode s) a (config_meant (counters_of s) x) ≡ moved (move_meant (counters_of s) m) (config_meant (counters_of s) x)
+    does : step (decode s) a (config_meant (counters_of s) x) ≡ moved (move_meant (counters_of s) o) (config_meant (counters_of s) x)
     unfolding move_at
     does =
         let y = config_meant (counters_of s) x in
         step_is s y i a k.there h (sym k.number)
-        ∙ ap (λ (o : Model.Move). moved o y) (sym (move_meant_lem (counters_of s) (move_part s i a) S.shape.counters_few) ∙ ap (move_meant (counters_of s)) (sym d))
+        ∙ ap (λ (t : Model.Move). moved t y) (sym (move_meant_lem (counters_of s) (move_part s i a) S.shape.counters_few) ∙ ap (move_meant (counters_of s)) (sym d))
 
     -- a barred move gives nothing,
-    pub does_nothing : m.kind ≡ Barred → step (decode s) a (config_meant (counters_of s) x) ≡ none
-    unfolding moved move_of_kind
-    does_nothing q = does ∙ ap (λ (t : Move). moved (move_of_kind t m.target (rules_meant (counters_of s) m.rules)) (config_meant (counters_of s) x)) q
-
-    -- an open one can be applied,
-    pub rules_safe : m.kind ≡ Open → RulesSafe m.rules
-    rules_safe q =
-        let f = (countable s S.shape B P i a k.there h m d q).rules in
-        record { first_safe = fits_safe (omega arith) f.first_fits; second_safe = fits_safe (omega arith) f.second_fits; third_safe = fits_safe (omega arith) f.third_fits }
-
-    -- leads where the code lands,
-    rules_meant_lem : m.kind ≡ Open → Each (RuleFits (counters_of s)) (rules_meant (counters_of s) m.rules)
-    unfolding move_at move_of_kind
-    rules_meant_lem q =
-        go
-        (subst (MoveFits (counters_of s))
-        (sym (move_meant_lem (counters_of s) (move_part s i a) S.shape.counters_few) ∙ ap (move_meant (counters_of s)) (sym d)
-        ∙ ap (λ (t : Move). move_of_kind t m.target (rules_meant (counters_of s) m.rules)) q)
-        (moves_fit s B S.fields i a k.there h))
-      where
-        go : {target : ℕ} {rules : List Rule} → MoveFits (counters_of s) (Model.Open target rules) → Each (RuleFits (counters_of s)) rules
-        go (open_fits t l f) = f
-
-    pub does_land : m.kind ≡ Open → step (decode s) a (config_meant (counters_of s) x) ≡ some (config_meant (counters_of s) (land_three m x))
-    unfolding moved move_of_kind
-    does_land q =
-        does
-        ∙ ap (λ (t : Move). moved (move_of_kind t m.target (rules_meant (counters_of s) m.rules)) (config_meant (counters_of s) x)) q
-        ∙ ap some (sym (land_meant (counters_of s) m x S.shape.counters_few (rules_meant_lem q)))
-
-    -- and a walk can go on from there.
-    land_spare : Spare (counters_of s) (land_three m x).values
-    unfolding land_three move_three
-    land_spare =
-        let f = rule_at (move_part s i a) in
-        record {
-          second_zero = λ l. subst (λ (m : RegionMove). applied m.rules.second (all_three x.values) ≡ pos 0) (sym d) (spare_rule f (counters_of s) 1 (all_three x.values) l);
-          third_zero = λ l. subst (λ (m : RegionMove). applied m.rules.third (all_three x.values) ≡ pos 0) (sym d) (spare_rule f (counters_of s) 2 (all_three x.values) l);
-        }
-
-    pub at_land : (y : Config) (j : ℕ) → m.kind ≡ Open → y ≡ land_three m x → j ≡ region_number (decode s) (config_meant (counters_of s) y) → At s y j
-    at_land y j q r g =
-        let n = regions_count s in
-        let c : Covered (decode s) (config_meant (counters_of s) x) = omega (arith, k.there, k.number) in
-        let l = W.moves_land (config_meant (counters_of s) x) (config_meant (counters_of s) (land_three m x)) a c (does_land q) in
-        let g' : j ≡ region_number (decode s) (config_meant (counters_of s) (land_three m x)) = g ∙ ap (λ (z : Config). region_number (decode s) (config_meant (counters_of s) z)) r in
-        record { number = g; there = omega (arith, l, g', n); spare = subst (λ (z : Config). Spare (counters_of s) z.values) (sym r) land_spare }
+    pub does_nothing : o ≡ None → step (decode s) a (config_meant (counters_of s) x) ≡ None
+    unfolding moved move_meant
+    does_nothing q = does ∙ ap (λ (t : Option RegionMove). moved (move_meant (counters_of s) t) (config_meant (counters_of s) x)) q
 
     -- So one action does what its move says: a barred one leaves everything as it is,
-    pub acts_barred : m.kind ≡ Barred → Acts s x a (record { config = x; region = i; entry = 65535; barred = true })
+    pub acts_barred : o ≡ None → Acts s (record { config = x; region = i }) a None
+    unfolding entry_by AnyWalk.is_barred
     acts_barred q = record { place = k; took = WalkLaws.took_barred (sheet_system (decode s)) (config_meant (counters_of s) x) (does_nothing q) }
 
-    -- an open one leads where the code lands.
-    pub acts_open : (y : Config) (j v : ℕ) → m.kind ≡ Open → y ≡ land_three m x → j ≡ region_number (decode s) (config_meant (counters_of s) y) → v ≡ label_at s j
-        → Acts s x a (record { config = y; region = j; entry = v; barred = false })
-    acts_open y j v q r g u =
-        let p = at_land y j q r g in
-        record {
-          place = p;
-          took =
-              WalkLaws.took_open (sheet_system (decode s)) (config_meant (counters_of s) x) (config_meant (counters_of s) y) v
-              (does_land q ∙ ap (λ (z : Config). some (config_meant (counters_of s) z)) (sym r)) (at_label y j v p u);
-        }
+    module _ {m : RegionMove} (q : o ≡ Some m) where
+      -- an open move can be applied,
+      pub rules_safe : RulesSafe m.rules
+      rules_safe =
+          let f = (countable s S.shape B P i a k.there h o d q).rules in
+          record { first_safe = fits_safe (omega arith) f.first_fits; second_safe = fits_safe (omega arith) f.second_fits; third_safe = fits_safe (omega arith) f.third_fits }
+
+      -- leads where the code lands,
+      rules_meant_lem : Each (RuleFits (counters_of s)) (rules_meant (counters_of s) m.rules)
+      unfolding move_at move_meant
+      rules_meant_lem =
+          go
+          (subst (MoveFits (counters_of s))
+          (sym (move_meant_lem (counters_of s) (move_part s i a) S.shape.counters_few) ∙ ap (move_meant (counters_of s)) (sym d ∙ q))
+          (moves_fit s B S.fields i a k.there h))
+        where
+          go : {target : ℕ} {rules : List Rule} → MoveFits (counters_of s) (Model.Open target rules) → Each (RuleFits (counters_of s)) rules
+          go (open_fits t l f) = f
+
+      pub does_land : step (decode s) a (config_meant (counters_of s) x) ≡ Some (config_meant (counters_of s) (land_three m x))
+      unfolding moved move_meant
+      does_land =
+          does
+          ∙ ap (λ (t : Option RegionMove). moved (move_meant (counters_of s) t) (config_meant (counters_of s) x)) q
+          ∙ ap Some (sym (land_meant (counters_of s) m x S.shape.counters_few rules_meant_lem))
+
+      -- and a walk can go on from there.
+      land_spare : Spare (counters_of s) (land_three m x).values
+      unfolding land_three
+      land_spare =
+          let f = rule_at (move_part s i a) in
+          let w = open_read (counters_of s) (move_part s i a) (sym d ∙ q) in
+          record {
+            second_zero = λ l. subst (λ (m : RegionMove). applied m.rules.second (all_three x.values) ≡ pos 0) (sym w) (spare_rule f (counters_of s) 1 (all_three x.values) l);
+            third_zero = λ l. subst (λ (m : RegionMove). applied m.rules.third (all_three x.values) ≡ pos 0) (sym w) (spare_rule f (counters_of s) 2 (all_three x.values) l);
+          }
+
+      pub at_land : (y : Config) (j : ℕ) → y ≡ land_three m x → j ≡ region_number (decode s) (config_meant (counters_of s) y) → At s y j
+      at_land y j r g =
+          let n = regions_count s in
+          let c : Covered (decode s) (config_meant (counters_of s) x) = omega (arith, k.there, k.number) in
+          let l = W.moves_land (config_meant (counters_of s) x) (config_meant (counters_of s) (land_three m x)) a c does_land in
+          let g' : j ≡ region_number (decode s) (config_meant (counters_of s) (land_three m x)) = g ∙ ap (λ (z : Config). region_number (decode s) (config_meant (counters_of s) z)) r in
+          record { number = g; there = omega (arith, l, g', n); spare = subst (λ (z : Config). Spare (counters_of s) z.values) (sym r) land_spare }
+
+      -- an open one leads where the code lands.
+      pub acts_open : (y : Config) (j : ℕ) → y ≡ land_three m x → j ≡ region_number (decode s) (config_meant (counters_of s) y)
+          → Acts s (record { config = x; region = i }) a (Some (record { config = y; region = j }))
+      unfolding entry_by AnyWalk.is_barred
+      acts_open y j r g =
+          let p = at_land y j r g in
+          record {
+            place = p;
+            took =
+                WalkLaws.took_open (sheet_system (decode s)) (config_meant (counters_of s) x) (config_meant (counters_of s) y) (label_at s j)
+                (does_land ∙ ap (λ (z : Config). Some (config_meant (counters_of s) z)) (sym r)) (at_label y j (label_at s j) p refl);
+          }
 
 -- The walk on a sheet that passed its check: where it is, which action was barred first, and what it has written.
-pub record Walk (s w old : List ℕ) (n : ℕ) (x : Config) (i : ℕ) (first : FirstBarred) (ls : List ℕ) : Type 0 where
-  pub place : At s x i
-  pub walked : AnyWalk.Walk (sheet_system (decode s)) (start_of s) w old n (config_meant (counters_of s) x) first ls
+pub record Walk (s w old : List ℕ) (n : ℕ) (x : Place) (first : Option ℕ) (ls : List ℕ) : Type 0 where
+  pub place : At s x.config x.region
+  pub walked : AnyWalk.Walk (sheet_system (decode s)) (start_of s) w old n (config_meant (counters_of s) x.config) first ls
 
-module _ (s w : List ℕ) (B : Bytes s) (e : sheet_check s ≡ Fine) where
+module _ (s w : List ℕ) (B : Bytes s) (e : sheet_check s ≡ Ok tt) where
   pub walk_start : (old : List ℕ) (x : Config) (i v : ℕ) → 0 < length old → x ≡ start_three s
-      → i ≡ region_number (decode s) (config_meant (counters_of s) x) → v ≡ label_at s i → Walk s w (set old 0 v) 0 x i Nothing (set old 0 v)
+      → i ≡ region_number (decode s) (config_meant (counters_of s) x) → v ≡ label_at s i → Walk s w (set old 0 v) 0 (record { config = x; region = i }) None (set old 0 v)
   walk_start old x i v h d q r =
       let k = at_start s B e x i d q in
       let y : config_meant (counters_of s) x ≡ start_of s = ap (config_meant (counters_of s)) d ∙ start_meant s (stages s e).shape in
       record {
         place = k;
-        walked = subst (λ (z : Configuration). AnyWalk.Walk (sheet_system (decode s)) (start_of s) w (set old 0 v) 0 z Nothing (set old 0 v)) (sym y)
+        walked = subst (λ (z : Configuration). AnyWalk.Walk (sheet_system (decode s)) (start_of s) w (set old 0 v) 0 z None (set old 0 v)) (sym y)
             (WalkLaws.walk_start (sheet_system (decode s)) (start_of s) w old v h
             (at_label s B e x i v k r ∙ ap (λ (z : Configuration). (sheet_system (decode s)).label z) y));
       }
 
-  pub walk_old : (old : List ℕ) (v n : ℕ) (x : Config) (i : ℕ) (first : FirstBarred) (ls : List ℕ) → Walk s w (set old 0 v) n x i first ls → Walk s w old n x i first ls
-  walk_old old v n x i first ls k =
-      record { place = k.place; walked = WalkLaws.walk_old (sheet_system (decode s)) (start_of s) w old v n (config_meant (counters_of s) x) first ls k.walked }
+  pub walk_old : (old : List ℕ) (v n : ℕ) (x : Place) (first : Option ℕ) (ls : List ℕ) → Walk s w (set old 0 v) n x first ls → Walk s w old n x first ls
+  walk_old old v n x first ls k =
+      record { place = k.place; walked = WalkLaws.walk_old (sheet_system (decode s)) (start_of s) w old v n (config_meant (counters_of s) x.config) first ls k.walked }
 
   -- one action
-  pub walk_step : (old ls : List ℕ) (n : ℕ) (x : Config) (i : ℕ) (first next : FirstBarred) (r : Acted) → Walk s w old n x i first ls → n < length w → n + 1 < length ls
-      → Acts s x (get_or w n 0) r → next ≡ noted_at first n r.barred → Walk s w old (n + 1) r.config r.region next (set ls (n + 1) r.entry)
+  pub walk_step : (old ls : List ℕ) (n : ℕ) (x y : Place) (first next : Option ℕ) (r : Option Place) (v : ℕ) → Walk s w old n x first ls → n < length w → n + 1 < length ls
+      → Acts s x (get_or w n 0) r → y ≡ unwrap_or r x → v ≡ entry_by s r → next ≡ noted_at first n (AnyWalk.is_barred r) → Walk s w old (n + 1) y next (set ls (n + 1) v)
   unfolding sheet_system
-  walk_step old ls n x i first next r k hw hl a d =
-      record {
+  walk_step old ls n x y first next r v k hw hl a b u d =
+      subst (λ (z : Place). Walk s w old (n + 1) z next (set ls (n + 1) v)) (sym b)
+      (subst (λ (m : ℕ). Walk s w old (n + 1) (unwrap_or r x) next (set ls (n + 1) m)) (sym u)
+      (record {
         place = a.place;
         walked =
-            subst (λ (f : FirstBarred). AnyWalk.Walk (sheet_system (decode s)) (start_of s) w old (n + 1) (config_meant (counters_of s) r.config) f (set ls (n + 1) r.entry)) (sym d)
-            (WalkLaws.walk_step (sheet_system (decode s)) (start_of s) w old ls n r.entry r.barred (config_meant (counters_of s) x) (config_meant (counters_of s) r.config) first k.walked
-            hw hl a.took);
-      }
+            subst (λ (f : Option ℕ). AnyWalk.Walk (sheet_system (decode s)) (start_of s) w old (n + 1) (config_meant (counters_of s) (unwrap_or r x).config) f (set ls (n + 1) (entry_by s r))) (sym d)
+            (WalkLaws.walk_step (sheet_system (decode s)) (start_of s) w old ls n (entry_by s r) (AnyWalk.is_barred r) (config_meant (counters_of s) x.config)
+            (config_meant (counters_of s) (unwrap_or r x).config) first k.walked hw hl a.took);
+      }))
 
   -- The walk ends after the last action.
-  pub walk_done : (old ls : List ℕ) (n : ℕ) (x : Config) (i : ℕ) (first : FirstBarred) → Walk s w old n x i first ls → n ≡ length w → n < length ls
-      → (Done (length w + 1) first ≡ ran_by Fine (sheet_reading (decode s) w)) × (ls ≡ left_by Fine (sheet_reading (decode s) w) old)
+  pub walk_done : (old ls : List ℕ) (n : ℕ) (x : Place) (first : Option ℕ) → Walk s w old n x first ls → n ≡ length w → n < length ls
+      → (Ok (record { entries = length w + 1; barred = first }) ≡ ran_by (Ok tt) (sheet_reading (decode s) w)) × (ls ≡ left_by (Ok tt) (sheet_reading (decode s) w) old)
   unfolding sheet_reading decode
-  walk_done old ls n x i first k q h = WalkLaws.walk_done (sheet_system (decode s)) (start_of s) w old ls n (config_meant (counters_of s) x) first k.walked q h
-
--- what the readers answer, by the sheet's own counts
-pub number_read : {s : List ℕ} {shape : Shape} → Read s shape → (x : Config) (i : ℕ) → i ≡ region_number (decode s) (config_meant shape.counters x)
-    → i ≡ region_number (decode s) (config_meant (counters_of s) x)
-number_read {s} R x i e = e ∙ ap (λ (n : ℕ). region_number (decode s) (config_meant n x)) R.counters_are
+  walk_done old ls n x first k q h = WalkLaws.walk_done (sheet_system (decode s)) (start_of s) w old ls n (config_meant (counters_of s) x.config) first k.walked q h
 
 -- what the passed checks of a run say
-pub run_passed : (s w : List ℕ) (room : ℕ) → sheet_run_check s w room ≡ Fine → (sheet_check s ≡ Fine) × Runs (actions_of s) w room
+pub run_passed : (s w : List ℕ) (room : ℕ) → sheet_run_check s w room ≡ Ok tt → (sheet_check s ≡ Ok tt) × Runs (actions_of s) w room
 unfolding sheet_run_check
 run_passed s w room e =
     let (p, q) = then_fine (sheet_check s) (run_checks (actions_of s) w room) e in

@@ -1,5 +1,5 @@
 -- Laws by which the readers of a sheet's fields meet their definitions.
-use Rattle.std.specs.Prelude.{◌≡◌, List, ℕ, ◌+◌, ◌*◌, ◌-◌, ◌≤◌, ◌<◌, length, take, drop, ℤ, pos}
+use Rattle.std.specs.Prelude.{◌≡◌, List, ℕ, ◌+◌, ◌*◌, ◌-◌, ◌≤◌, ◌<◌, length, take, drop, ℤ, pos, Option, None, Some}
 use Rattle.std.proofs.Common.{sym, subst, ◌∙◌, inl, inr, mul-le-mul_left, length-drop, take_all, eq-eqb, ne_eqb}
 use Rattle.std.proofs.Math.Path.{ap}
 use native.Mathlib.Omega.{arith}
@@ -11,14 +11,12 @@ use Rattle.model.specs.declared.Rule.TheVariants.{Set, Carry}
 use Rattle.sheet_bytes.specs.declared.Shape.{Shape}
 use Rattle.sheet_bytes.specs.declared.RegionBox.{RegionBox}
 use Rattle.sheet_bytes.specs.declared.Config.{Config}
-use Rattle.sheet_bytes.specs.declared.Move.{Move}
-use Rattle.sheet_bytes.specs.declared.Move.TheVariants.{Barred, Open}
 use Rattle.sheet_bytes.specs.declared.RegionMove.{RegionMove}
-use Rattle.sheet_rules.specs.Layout.{counters_of, bound_size, move_size, region_size, place_by, region_place, move_place, move_part, low_place, high_place, rule_place, start_state, start_place, start_value, state_at, kind_of, source_of, factor_of, offset_of}
+use Rattle.sheet_rules.specs.Layout.{counters_of, actions_of, regions_of, bound_size, move_size, region_size, place_by, region_place, move_place, move_part, low_place, high_place, rule_place, start_state, start_place, start_value, state_at, kind_of, source_of, factor_of, offset_of}
 use Rattle.sheet_rules.specs.Decode.{range_at, rule_of, rule_at}
 use Rattle.sheet_rules.specs.Shape.{TwoOrFour}
 use Rattle.sheet_rules.proofs.Shape.{two_or_four, width_few, bounds_le, move_size_le, moves_le, regions_le, region_end, start_end, bound_end, move_end, header_end, length_le, rule_end}
-use Rattle.sheet_bytes.specs.Three.{Read, padded, padded_in, padded_out, zero_range, zero_rule, box_three, start_padded, start_three, kind_named, move_three}
+use Rattle.sheet_bytes.specs.Three.{Read, padded, padded_in, padded_out, zero_range, zero_rule, box_three, start_padded, start_three, open_three, move_three}
 
 -- a shape within the limits of the counts: places made of it are small
 pub record Small (shape : Shape) : Type 0 where
@@ -68,8 +66,8 @@ module _ {s : List ℕ} {shape : Shape} (R : Read s shape) where
       ∙ ap (λ (n : ℕ). place_by (bound_size s) (counters_of s) n i) R.actions_are
 
   -- the bounds of counter v stand where the code says, and lie within the sheet
-  pub pairs_limit : (v : ℕ) → v < shape.counters → shape.width * v ≤ 12
-  pairs_limit v h = omega (arith, bounds_le shape.width v (omega (arith, counters_limit)), width_limit.1)
+  pub pairs_limit : (v : ℕ) → v < counters_of s → shape.width * v ≤ 12
+  pairs_limit v h = omega (arith, bounds_le shape.width v (omega (arith, R.shaped.counters_few)), width_limit.1)
 
   pub low_read : (i v p : ℕ) → p ≡ region_place s i → p + 3 + 2 * shape.width * v ≡ low_place s i v
   unfolding low_place
@@ -77,27 +75,27 @@ module _ {s : List ℕ} {shape : Shape} (R : Read s shape) where
       let m = ap (λ (k : ℕ). k * v) R.width_is in
       omega arith
 
-  pub low_within : (i v : ℕ) → i < shape.regions → v < shape.counters → low_place s i v + 2 * shape.width ≤ length s
+  pub low_within : (i v : ℕ) → i < regions_of s → v < counters_of s → low_place s i v + 2 * shape.width ≤ length s
   unfolding high_place
   low_within i v h k =
-      omega (arith, R.width_is, bound_end s R.shaped i v (omega (arith, R.regions_are)) (omega (arith, R.counters_are)))
+      omega (arith, R.width_is, bound_end s R.shaped i v h k)
 
   pub sheet_short : length s ≤ 6773
   sheet_short = length_le s R.shaped
 
-  pub region_within : (i p : ℕ) → i < shape.regions → p ≡ region_place s i → p + 3 + 2 * shape.width * shape.counters ≤ length s
+  pub region_within : (i p : ℕ) → i < regions_of s → p ≡ region_place s i → p + 3 + 2 * shape.width * shape.counters ≤ length s
   unfolding region_size
   region_within i p h e =
       let a = ap (λ (k : ℕ). k * shape.counters) R.width_is in
       let b = ap (λ (k : ℕ). bound_size s * k) R.counters_are in
-      omega (arith, region_end s R.shaped i (omega (arith, R.regions_are)))
+      omega (arith, region_end s R.shaped i h)
 
   -- the move record of action a stands where the code says, and lies within the sheet
-  pub move_rows : (a m : ℕ) → a < shape.actions → m ≡ move_size shape.counters → a * m ≤ 184
+  pub move_rows : (a m : ℕ) → a < actions_of s → m ≡ move_size shape.counters → a * m ≤ 184
   move_rows a m h e =
       let k : m ≤ 23 = omega (arith, move_size_le shape.counters counters_limit) in
       let l = mul-le-mul_left a k in
-      omega (arith, actions_limit)
+      omega (arith, R.shaped.actions_few)
 
   pub move_read : (i a p m : ℕ) → p ≡ region_place s i → m ≡ move_size shape.counters → p + 3 + 2 * shape.width * shape.counters + a * m ≡ move_place s i a
   unfolding move_place
@@ -109,19 +107,19 @@ module _ {s : List ℕ} {shape : Shape} (R : Read s shape) where
       let h = ap (λ (k : ℕ). bound_size s * k) b in
       omega arith
 
-  pub move_within : (i a p : ℕ) → i < shape.regions → a < shape.actions → p ≡ move_place s i a → p + move_size shape.counters ≤ length s
+  pub move_within : (i a p : ℕ) → i < regions_of s → a < actions_of s → p ≡ move_place s i a → p + move_size shape.counters ≤ length s
   move_within i a p h k e =
       let b = R.counters_are in
       let f : move_size shape.counters ≡ move_size (counters_of s) = cc in
-      omega (arith, move_end s R.shaped i a (omega (arith, R.regions_are)) (omega (arith, R.actions_are)))
+      omega (arith, move_end s R.shaped i a h k)
 
   -- the start's values stand where the code says, and lie within the sheet
   pub start_place_lem : (v : ℕ) → 9 + shape.width * v ≡ start_place s v
   unfolding start_place
   start_place_lem v = ap (λ (k : ℕ). 9 + k * v) R.width_is
 
-  pub start_within : (v : ℕ) → v < shape.counters → start_place s v + shape.width ≤ length s
-  start_within v h = omega (arith, R.width_is, start_end s R.shaped v (omega (arith, R.counters_are)))
+  pub start_within : (v : ℕ) → v < counters_of s → start_place s v + shape.width ≤ length s
+  start_within v h = omega (arith, R.width_is, start_end s R.shaped v h)
 
   pub header_within : 9 ≤ length s
   header_within = omega (arith, header_end s R.shaped)
@@ -136,20 +134,6 @@ module _ {s : List ℕ} {shape : Shape} (R : Read s shape) where
       let d : h ≡ signed_at (bound_size s) s (low_place s i v + bound_size s) = cc in
       λ j. record { low = c j; high = d j }
 
-  pub box_read : (i p : ℕ) (a b c : Range) → p ≡ region_place s i
-      → a ≡ padded zero_range (range_at s i) shape.counters 0
-      → b ≡ padded zero_range (range_at s i) shape.counters 1
-      → c ≡ padded zero_range (range_at s i) shape.counters 2
-      → ◌≡◌ {A = RegionBox} (record { state = get_or s (p + 2) 0; ranges = record { first = a; second = b; third = c } }) (box_three s i)
-  unfolding box_three state_at
-  box_read i p a b c e f g h =
-      let k = R.counters_are in
-      let x : get_or s (p + 2) 0 ≡ get_or s (region_place s i + 2) 0 = ap (λ (q : ℕ). get_or s (q + 2) 0) e in
-      let y : a ≡ padded zero_range (range_at s i) (counters_of s) 0 = cc in
-      let z : b ≡ padded zero_range (range_at s i) (counters_of s) 1 = cc in
-      let w : c ≡ padded zero_range (range_at s i) (counters_of s) 2 = cc in
-      λ j. record { state = x j; ranges = record { first = y j; second = z j; third = w j } }
-
   pub start_value_lem : (v p : ℕ) (z : ℤ) → p ≡ start_place s v → z ≡ signed_at shape.width s p → z ≡ start_value s v
   unfolding start_value
   start_value_lem v p z d e = e ∙ ap (signed_at shape.width s) d ∙ ap (λ (n : ℕ). signed_at n s (start_place s v)) R.width_is
@@ -159,6 +143,14 @@ module _ {s : List ℕ} {shape : Shape} (R : Read s shape) where
 
   pub start_out : (v : ℕ) → shape.counters ≤ v → pos 0 ≡ start_padded s v
   start_out v h = sym (padded_out (pos 0) (start_value s) (counters_of s) v (omega (arith, R.counters_are)))
+
+pub box_made : (s : List ℕ) (i : ℕ) {n : ℕ} {a b c : Range} → n ≡ state_at s i
+    → a ≡ padded zero_range (range_at s i) (counters_of s) 0
+    → b ≡ padded zero_range (range_at s i) (counters_of s) 1
+    → c ≡ padded zero_range (range_at s i) (counters_of s) 2
+    → ◌≡◌ {A = RegionBox} (record { state = n; ranges = record { first = a; second = b; third = c } }) (box_three s i)
+unfolding box_three
+box_made s i d e f g = λ j. record { state = d j; ranges = record { first = e j; second = f j; third = g j } }
 
 pub start_read : (s : List ℕ) (a b c : ℤ) → a ≡ start_padded s 0 → b ≡ start_padded s 1 → c ≡ start_padded s 2
     → ◌≡◌ {A = Config} (record { state = start_state s; values = record { first = a; second = b; third = c } }) (start_three s)
@@ -202,27 +194,31 @@ unfolding rule_place
 rule_in V# v p r h e = e ∙ ap rule_of (rest (2 + 7 * v) p) ∙ sym (padded_in zero_rule (rule_at p) V# v h)
 
 -- a move by its kind
-pub kind_barred : (k : ℕ) → k ≡ 0 → Barred ≡ kind_named k
-unfolding kind_named
-kind_barred k e = rw (eq-eqb k 0 e, kind_named)
-
-pub kind_open : (k : ℕ) → (k ≡ 0 → ⊥) → Open ≡ kind_named k
-unfolding kind_named
-kind_open k e = rw (ne_eqb k 0 e, kind_named)
+pub move_barred : (V# : ℕ) (p : List ℕ) → kind_of p ≡ 0 → None ≡ move_three V# p
+unfolding move_three
+move_barred V# p e = rw (eq-eqb (kind_of p) 0 e, move_three)
 
 pub move_some : (V# n : ℕ) → move_size V# ≤ n → 2 ≤ n
 unfolding move_size
 move_some V# n h = omega arith
 
-pub move_made : (V# : ℕ) (p : List ℕ) (k : Move) (a b c : Rule) → k ≡ kind_named (kind_of p)
+pub move_made : (V# : ℕ) (p : List ℕ) (a b c : Rule) → (kind_of p ≡ 0 → ⊥)
     → a ≡ padded zero_rule (rule_at p) V# 0 → b ≡ padded zero_rule (rule_at p) V# 1 → c ≡ padded zero_rule (rule_at p) V# 2
-    → ◌≡◌ {A = RegionMove} (record { kind = k; target = get_or p 1 0; rules = record { first = a; second = b; third = c } }) (move_three V# p)
+    → Some (record { target = get_or p 1 0; rules = record { first = a; second = b; third = c } }) ≡ move_three V# p
 unfolding move_three
-move_made V# p k a b c d e f g = λ j. record { kind = d j; target = get_or p 1 0; rules = record { first = e j; second = f j; third = g j } }
+move_made V# p a b c d e f g =
+    let m : ◌≡◌ {A = RegionMove} (record { target = get_or p 1 0; rules = record { first = a; second = b; third = c } }) (open_three V# p) =
+    λ j. record { target = get_or p 1 0; rules = record { first = e j; second = f j; third = g j } } in
+    rw (ne_eqb (kind_of p) 0 d, move_three) (ap {B = Option RegionMove} Some m)
 
--- the code reads the move record from the part of the sheet that starts with it
-pub part_read : {s : List ℕ} {shape : Shape} → Read s shape → (i a p : ℕ) (m : RegionMove) → p ≡ move_place s i a
-    → m ≡ move_three shape.counters (take (length s - p) (drop p s)) → m ≡ move_three (counters_of s) (move_part s i a)
-part_read {s} {shape} R i a p m e d =
-    let n = R.counters_are in
-    d ∙ ap (move_three shape.counters) (rest p s) ∙ ap (λ (k : ℕ). move_three k (drop p s)) n ∙ ap (λ (k : ℕ). move_three (counters_of s) (drop k s)) e
+-- the part of the sheet that starts with a move record
+pub part_of : (s : List ℕ) (i a : ℕ) {p : ℕ} → p ≡ move_place s i a → take (length s - p) (drop p s) ≡ move_part s i a
+part_of s i a {p} e = rest p s ∙ ap (λ (k : ℕ). drop k s) e
+
+module _ {s : List ℕ} {shape : Shape} (R : Read s shape) where
+  pub part_whole : {n : ℕ} → move_size (counters_of s) ≤ n → move_size shape.counters ≤ n
+  part_whole {n} h = subst (λ (k : ℕ). move_size k ≤ n) (sym R.counters_are) h
+
+  -- the code reads the move record from that part
+  pub part_read : (i a : ℕ) {part : List ℕ} {m : Option RegionMove} → part ≡ move_part s i a → m ≡ move_three shape.counters part → m ≡ move_three (counters_of s) (move_part s i a)
+  part_read i a e d = d ∙ ap (move_three shape.counters) e ∙ ap (λ (k : ℕ). move_three k (move_part s i a)) R.counters_are

@@ -18,7 +18,7 @@ use Rattle.sheet_bytes.specs.declared.Values.{Values}
 use Rattle.sheet_bytes.specs.declared.Config.{Config}
 use Rattle.sheet_bytes.specs.declared.Rules.{Rules}
 use Rattle.sheet_bytes.specs.declared.RegionMove.{RegionMove}
-use Rattle.sheet_rules.specs.Layout.{regions_of}
+use Rattle.sheet_rules.specs.Layout.{counters_of, regions_of}
 use Rattle.sheet_rules.specs.Decode.{box_at, region_at, decode}
 use Rattle.sheet_bytes.specs.Three.{Read, box_three, box_meant_lem, firsts, ranges_meant, values_meant, rules_meant, box_meant, config_meant}
 
@@ -226,9 +226,10 @@ land_parts m x a b d p q r = λ i. record { state = m.target; values = record { 
 
 -- what a test of region i's box says
 pub box_told : {s : List ℕ} {shape : Shape} (R : Read s shape) (i : ℕ) (x : Config) {b : RegionBox} {t v : Bool} → b ≡ box_three s i
-    → t ≡ in_box (box_meant shape.counters b) (config_meant shape.counters x) → t ≡ v → in_box (box_at s i) (config_meant shape.counters x) ≡ v
+    → t ≡ in_box (box_meant shape.counters b) (config_meant shape.counters x) → t ≡ v → in_box (box_at s i) (config_meant (counters_of s) x) ≡ v
 box_told {s} {shape} R i x {b} {t} {v} e h k =
-    let y = config_meant shape.counters x in
-    ap (λ (d : Box). in_box d y) (sym (box_meant_lem s R.shaped i) ∙ ap (λ (n : ℕ). box_meant n (box_three s i)) (sym R.counters_are) ∙ ap (box_meant shape.counters) (sym e))
+    let y = config_meant (counters_of s) x in
+    ap (λ (d : Box). in_box d y) (sym (box_meant_lem s R.shaped i) ∙ ap (box_meant (counters_of s)) (sym e))
+    ∙ ap (λ (n : ℕ). in_box (box_meant n b) (config_meant n x)) (sym R.counters_are)
     ∙ sym h
     ∙ k

@@ -1,19 +1,18 @@
 -- How the code's structs of three counters stand for the model's lists: the first V of the three count, and a counter that the sheet
 -- lacks has the value 0, the range 0..0 and the rule "set to 0".
-use Rattle.std.specs.Prelude.{◌≡◌, refl, Bool, true, false, cond, List, [], ◌∷◌, ℕ, zero, suc, ◌≤◌, ◌<◌, eqb, ltb, get_or, take, ℤ, pos}
+use Rattle.std.specs.Prelude.{◌≡◌, refl, Bool, true, false, cond, List, [], ◌∷◌, ℕ, zero, suc, ◌≤◌, ◌<◌, eqb, ltb, get_or, take, ℤ, pos, Option, None, Some}
 use Rattle.std.proofs.Common.{ap, arith, lt-ltb, le-ltb}
 use Rattle.integers.specs.declared.Range.{Range}
+use Rattle.integers.specs.LittleEndian.{Bytes}
 use Rattle.systems.specs.Lists.{collect}
 use Rattle.model.specs.declared.Rule.{Rule}
 use Rattle.model.specs.declared.Rule.TheVariants.{Set}
-use Rattle.model.specs.Sheet.{Configuration, Box, Move as ModelMove, Barred as barred, Open as opened}
+use Rattle.model.specs.Sheet.{Configuration, Box, Move, Barred, Open}
 use Rattle.sheet_bytes.specs.declared.Shape.{Shape}
 use Rattle.sheet_bytes.specs.declared.Ranges.{Ranges}
 use Rattle.sheet_bytes.specs.declared.RegionBox.{RegionBox}
 use Rattle.sheet_bytes.specs.declared.Values.{Values}
 use Rattle.sheet_bytes.specs.declared.Config.{Config}
-use Rattle.sheet_bytes.specs.declared.Move.{Move}
-use Rattle.sheet_bytes.specs.declared.Move.TheVariants.{Barred, Open}
 use Rattle.sheet_bytes.specs.declared.Rules.{Rules}
 use Rattle.sheet_bytes.specs.declared.RegionMove.{RegionMove}
 use Rattle.sheet_rules.specs.Layout.{counters_of, actions_of, regions_of, bound_size, start_state, start_value, state_at, kind_of}
@@ -31,6 +30,17 @@ pub record Read (s : List ℕ) (shape : Shape) : Type 0 where
   pub actions_are : shape.actions ≡ actions_of s
   pub regions_are : shape.regions ≡ regions_of s
   pub width_is : shape.width ≡ bound_size s
+
+-- what is known of a sheet whose shape is kept beside its bytes
+pub record Known (s : List ℕ) (shape : Shape) : Type 0 where
+  pub read : Read s shape
+  pub bytes : Bytes s
+
+pub read_of : {s : List ℕ} → Shaped s → Read s (shape_of s)
+read_of S = record { shaped = S; counters_are = refl; actions_are = refl; regions_are = refl; width_is = refl }
+
+pub shape_is : {s : List ℕ} {shape : Shape} → Read s shape → shape ≡ shape_of s
+shape_is R = λ j. record { counters = R.counters_are j; actions = R.actions_are j; regions = R.regions_are j; width = R.width_is j }
 
 -- the first n of three
 unfoldable pub firsts : {A : Type 0} → ℕ → A → A → A → List A
@@ -52,12 +62,9 @@ box_meant n b = record { state = b.state; ranges = ranges_meant n b.ranges }
 abbrev pub config_meant : ℕ → Config → Configuration
 config_meant n x = record { state = x.state; values = values_meant n x.values }
 
-unfoldable pub move_of_kind : Move → ℕ → List Rule → ModelMove
-move_of_kind Barred target rules = barred
-move_of_kind Open target rules = opened target rules
-
-abbrev pub move_meant : ℕ → RegionMove → ModelMove
-move_meant n m = move_of_kind m.kind m.target (rules_meant n m.rules)
+unfoldable pub move_meant : ℕ → Option RegionMove → Move
+move_meant n None = Barred
+move_meant n (Some m) = Open m.target (rules_meant n m.rules)
 
 -- f v for a counter v of the n, else d
 unfoldable pub padded : {A : Type 0} → A → (ℕ → A) → ℕ → ℕ → A
@@ -93,12 +100,12 @@ start_three s = record { state = start_state s; values = record { first = start_
 abbrev pub rules_three : (ℕ → Rule) → ℕ → Rules
 rules_three f n = record { first = padded zero_rule f n 0; second = padded zero_rule f n 1; third = padded zero_rule f n 2 }
 
--- kind 0 is barred, 1 is open
-unfoldable pub kind_named : ℕ → Move
-kind_named k = elim (eqb k 0) [ true ↦ Barred | false ↦ Open ]
+abbrev pub open_three : ℕ → List ℕ → RegionMove
+open_three n p = record { target = get_or p 1 0; rules = rules_three (rule_at p) n }
 
-unfoldable pub move_three : ℕ → List ℕ → RegionMove
-move_three n p = record { kind = kind_named (kind_of p); target = get_or p 1 0; rules = rules_three (rule_at p) n }
+-- kind 0 is barred, 1 is open
+unfoldable pub move_three : ℕ → List ℕ → Option RegionMove
+move_three n p = elim (eqb (kind_of p) 0) [ true ↦ None | false ↦ Some (open_three n p) ]
 
 -- the first n of three that were padded are the list of all n
 pub firsts_padded : {A : Type 0} (d : A) (f : ℕ → A) (n : ℕ) → n ≤ 3 → firsts n (padded d f n 0) (padded d f n 1) (padded d f n 2) ≡ listed f n
@@ -120,10 +127,19 @@ module _ (s : List ℕ) (S : Shaped s) where
   start_meant = let e = firsts_padded (pos 0) (start_value s) (counters_of s) S.counters_few in λ j. record { state = start_state s; values = e j }
 
 pub move_meant_lem : (n : ℕ) (p : List ℕ) → n ≤ 3 → move_meant n (move_three n p) ≡ move_of n p
-unfolding move_of_kind move_three move_of kind_named
+unfolding move_meant move_three move_of
 move_meant_lem n p h = go (eqb (kind_of p) 0)
   where
-    go : (b : Bool) → ◌≡◌ {A = ModelMove} (move_of_kind (elim b [ true ↦ Barred | false ↦ Open ]) (get_or p 1 0) (rules_meant n (rules_three (rule_at p) n)))
-        (elim b [ true ↦ barred | false ↦ opened (get_or p 1 0) (listed (rule_at p) n) ])
+    go : (b : Bool) → ◌≡◌ {A = Move} (move_meant n (elim b [ true ↦ None | false ↦ Some (open_three n p) ]))
+        (elim b [ true ↦ Barred | false ↦ Open (get_or p 1 0) (listed (rule_at p) n) ])
     go true = refl
-    go false = ap (opened (get_or p 1 0)) (firsts_padded zero_rule (rule_at p) n h)
+    go false = ap (Open (get_or p 1 0)) (firsts_padded zero_rule (rule_at p) n h)
+
+-- an open move is what its record says
+pub open_read : (n : ℕ) (p : List ℕ) {m : RegionMove} → move_three n p ≡ Some m → m ≡ open_three n p
+unfolding move_three
+open_read n p {m} e = go (eqb (kind_of p) 0) e
+  where
+    go : (b : Bool) → ◌≡◌ {A = Option RegionMove} (elim b [ true ↦ None | false ↦ Some (open_three n p) ]) (Some m) → m ≡ open_three n p
+    go true q = cc
+    go false q = cc

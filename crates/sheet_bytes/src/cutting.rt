@@ -15,30 +15,19 @@ use model::Rule;
 fn narrow(source: usize, q: Range, b: Ranges) -> Ranges
     ensures { result ≡ narrow_three source q b }
 {
-    let first = b.first;
-    let second = b.second;
-    let third = b.third;
-    if source == 0 {
-        let cut = common(first, q);
-        Ranges {
-            first: cut,
-            second,
-            third,
-        }
-    } else if source == 1 {
-        let cut = common(second, q);
-        Ranges {
-            first,
-            second: cut,
-            third,
-        }
-    } else {
-        let cut = common(third, q);
-        Ranges {
-            first,
-            second,
-            third: cut,
-        }
+    match source {
+        0 => Ranges {
+            first: common(b.first, q),
+            ..b
+        },
+        1 => Ranges {
+            second: common(b.second, q),
+            ..b
+        },
+        _ => Ranges {
+            third: common(b.third, q),
+            ..b
+        },
     }
 }
 
@@ -75,10 +64,7 @@ pub fn cut_by_all(rules: Rules, wanted: Ranges, b: Ranges) -> Ranges
     requires ranges_within { RangesWithin 1000000 wanted }
     ensures { result ≡ cuts_three rules wanted b }
 {
-    let first = rules.first;
-    let second = rules.second;
-    let third = rules.third;
-    let one = cut_by(first, wanted.first, b);
-    let two = cut_by(second, wanted.second, one);
-    cut_by(third, wanted.third, two)
+    let one = cut_by(rules.first, wanted.first, b);
+    let two = cut_by(rules.second, wanted.second, one);
+    cut_by(rules.third, wanted.third, two)
 }

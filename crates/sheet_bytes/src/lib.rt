@@ -8,10 +8,13 @@ use model::Rule;
 
 pub mod cutting;
 pub mod fields;
+pub mod sheet;
 pub mod space;
 
+pub use sheet::Sheet;
+
 // What decides where the fields of a sheet stand: the three counts V, A and R, and how many bytes a bound takes.
-#[derive(Clone, Copy)]
+#[derive(Clone, Copy, Debug, PartialEq, Eq, Hash)]
 pub struct Shape {
     pub counters: usize,
     pub actions: usize,
@@ -20,7 +23,7 @@ pub struct Shape {
 }
 
 // A range for each counter. One that the sheet lacks has 0..0.
-#[derive(Clone, Copy)]
+#[derive(Clone, Copy, Debug, PartialEq, Eq, Hash)]
 pub struct Ranges {
     pub first: Range,
     pub second: Range,
@@ -28,14 +31,14 @@ pub struct Ranges {
 }
 
 // The box of a region: its state, and a range for each counter.
-#[derive(Clone, Copy)]
+#[derive(Clone, Copy, Debug, PartialEq, Eq, Hash)]
 pub struct RegionBox {
     pub state: u8,
     pub ranges: Ranges,
 }
 
 // A value for each counter. One that the sheet lacks has 0.
-#[derive(Clone, Copy)]
+#[derive(Clone, Copy, Debug, PartialEq, Eq, Hash)]
 pub struct Values {
     pub first: i64,
     pub second: i64,
@@ -43,31 +46,23 @@ pub struct Values {
 }
 
 // A configuration: a state, and a value for each counter.
-#[derive(Clone, Copy)]
+#[derive(Clone, Copy, Debug, PartialEq, Eq, Hash)]
 pub struct Config {
     pub state: u8,
     pub values: Values,
 }
 
-// In each region each action is barred, or open.
-#[derive(Clone, Copy)]
-pub enum Move {
-    Barred,
-    Open,
-}
-
 // A rule for each counter. One that the sheet lacks is set to 0.
-#[derive(Clone, Copy)]
+#[derive(Clone, Copy, Debug, PartialEq, Eq, Hash)]
 pub struct Rules {
     pub first: Rule,
     pub second: Rule,
     pub third: Rule,
 }
 
-// What an action does in a region. Of a barred move, kind alone means anything.
-#[derive(Clone, Copy)]
+// What an action that is open in a region does there: the state that it leads to, and its rules. A barred one has none.
+#[derive(Clone, Copy, Debug, PartialEq, Eq, Hash)]
 pub struct RegionMove {
-    pub kind: Move,
     pub target: u8,
     pub rules: Rules,
 }

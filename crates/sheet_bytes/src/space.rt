@@ -1,12 +1,13 @@
 // Configurations and boxes: membership, landing, and the region of a configuration.
 ghost use Rattle.std.specs.Prelude.{◌≡◌, ◌<◌, ◌≤◌, get_or, pos};
 ghost use Rattle.model.specs.Sheet.{within, in_box, applied, region_number};
+ghost use Rattle.sheet_rules.specs.Layout.{counters_of};
 ghost use Rattle.sheet_rules.specs.Decode.{decode};
-ghost use Rattle.sheet_bytes.specs.Three.{Read, ranges_meant, values_meant, box_meant, config_meant};
+ghost use Rattle.sheet_bytes.specs.Three.{ranges_meant, values_meant, box_meant, config_meant};
 ghost use Rattle.sheet_bytes.specs.Space.{RuleSafe, RulesSafe, ValuesWithin, all_three, land_three};
 
-use crate::fields::box_at;
-use crate::{Config, Ranges, RegionBox, RegionMove, Shape, Values};
+use crate::sheet::Sheet;
+use crate::{Config, Ranges, RegionBox, RegionMove, Values};
 use machine_integers::ranges::has;
 use model::Rule;
 
@@ -15,21 +16,8 @@ pub fn within_ranges(r: Ranges, x: Values, counters: usize) -> bool
     requires { (1 ≤ counters) × (counters ≤ 3) }
     ensures { result ≡ within (ranges_meant counters r) (values_meant counters x) }
 {
-    let first = r.first;
-    let second = r.second;
-    let third = r.third;
-    if has(first, x.first) {
-        if counters == 1 {
-            return true;
-        }
-        if has(second, x.second) {
-            if counters == 2 {
-                return true;
-            }
-            return has(third, x.third);
-        }
-    }
-    false
+    has(r.first, x.first)
+        && (counters == 1 || has(r.second, x.second) && (counters == 2 || has(r.third, x.third)))
 }
 
 // Whether the configuration is in the box.
@@ -37,13 +25,7 @@ pub fn inside(b: RegionBox, x: Config, counters: usize) -> bool
     requires { (1 ≤ counters) × (counters ≤ 3) }
     ensures { result ≡ in_box (box_meant counters b) (config_meant counters x) }
 {
-    if b.state == x.state {
-        let ranges = b.ranges;
-        let values = x.values;
-        within_ranges(ranges, values, counters)
-    } else {
-        false
-    }
+    b.state == x.state && within_ranges(b.ranges, x.values, counters)
 }
 
 // The value of a counter.
@@ -51,13 +33,11 @@ fn pick(x: Values, source: usize) -> i64
     requires { source < 3 }
     ensures { result ≡ get_or (all_three x) source (pos 0) }
 {
-    if source == 0 {
-        return x.first;
+    match source {
+        0 => x.first,
+        1 => x.second,
+        _ => x.third,
     }
-    if source == 1 {
-        return x.second;
-    }
-    x.third
 }
 
 // The new value that a rule gives from the old ones.
@@ -83,13 +63,9 @@ pub fn land(x: Config, m: RegionMove) -> Config
     ensures { result ≡ land_three m x }
 {
     let old = x.values;
-    let rules = m.rules;
-    let first_rule = rules.first;
-    let second_rule = rules.second;
-    let third_rule = rules.third;
-    let first = apply(first_rule, old);
-    let second = apply(second_rule, old);
-    let third = apply(third_rule, old);
+    let first = apply(m.rules.first, old);
+    let second = apply(m.rules.second, old);
+    let third = apply(m.rules.third, old);
     let values = Values {
         first,
         second,
@@ -101,19 +77,17 @@ pub fn land(x: Config, m: RegionMove) -> Config
     }
 }
 
-// The number of the region with the configuration, or the number of regions where there is none.
-pub fn region_of(s: &[u8], shape: Shape, x: Config) -> usize
-    requires { Read s.now shape }
-    ensures { result ≡ region_number (decode s.now) (config_meant shape.counters x) }
-{
-    let counters = shape.counters;
-    let mut i = 0;
-    while i < shape.regions {
-        let b = box_at(s, shape, i);
-        if inside(b, x, counters) {
-            return i;
+impl<'a> Sheet<'a> {
+    /// The number of the region with the configuration, or the number of regions where there is none.
+    pub fn region_of(&self, x: Config) -> usize
+        ensures { result ≡ region_number (decode self.now) (config_meant (counters_of self.now) x) }
+    {
+        let shape = self.shape();
+        for i in 0..shape.regions {
+            if inside(self.box_at(i), x, shape.counters) {
+                return i;
+            }
         }
-        i += 1;
+        shape.regions
     }
-    i
 }

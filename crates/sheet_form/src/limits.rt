@@ -2,17 +2,13 @@
 ghost use Rattle.std.specs.Prelude.{◌≡◌, ◌+◌, ◌*◌, ◌<◌, ◌≤◌, length};
 ghost use Rattle.answer_rules.specs.Stages.{each};
 ghost use Rattle.sheet_rules.specs.Layout.{counters_of, regions_of, move_size};
-ghost use Rattle.sheet_bytes.specs.Three.{Read};
 ghost use Rattle.sheet_rules.specs.Form.{check_value, check_bound, check_rule, check_zero_rule, check_move, check_fields, check_limits};
 ghost use Rattle.sheet_form.specs.Limits.{source_right, factor_right, check_one, check_moves};
 
-use answers::{Checked, demanded};
+use answers::{Reason, Refusal, demanded};
 use machine_integers::bytes::{signed8, signed32};
 use machine_integers::ranges::near_zero;
-use sheet_bytes::Shape;
-use sheet_bytes::fields::{
-    label_at, low_place, move_place, offset_limit, range_at, region_place, start_place, start_value,
-};
+use sheet_bytes::Sheet;
 
 // Whether a rule's source is right: 0 for a set rule, a counter's number for a carry rule.
 fn source_right(part: &[u8], counters: usize) -> bool
@@ -33,225 +29,167 @@ fn factor_right(part: &[u8]) -> bool
     ensures { result ≡ factor_right part.now }
 {
     let factor = signed8(part, 2);
-    let zero = near_zero(factor, 0);
     if part[0] == 0 {
-        return zero;
+        near_zero(factor, 0)
+    } else {
+        near_zero(factor, 100) && !near_zero(factor, 0)
     }
-    if zero {
-        return false;
-    }
-    near_zero(factor, 100)
 }
 
 // A rule of an open move, from the part that starts with it, which stands at a place of the sheet. Its offset is at most so far from zero.
-fn check_rule(part: &[u8], counters: usize, most: u32, at: usize) -> Checked
+fn check_rule(part: &[u8], counters: usize, most: u32, place: usize) -> Result<(), Refusal>
     requires in_bounds { 7 ≤ length part.now }
-    requires at_bound { at < 10000 }
-    ensures { result ≡ check_rule counters most part.now at }
+    requires place_bound { place < 10000 }
+    ensures { result ≡ check_rule counters most part.now place }
 {
-    let kind = demanded(part[0] <= 1, 4, at);
-    let Checked::Fine = kind else {
-        return kind;
-    };
-    let source = demanded(source_right(part, counters), 4, at + 1);
-    let Checked::Fine = source else {
-        return source;
-    };
-    let factor = demanded(factor_right(part), 4, at + 2);
-    let Checked::Fine = factor else {
-        return factor;
-    };
-    demanded(near_zero(signed32(part, 3), most), 4, at + 3)
+    demanded(part[0] <= 1, Reason::Field.at(place))?;
+    demanded(source_right(part, counters), Reason::Field.at(place + 1))?;
+    demanded(factor_right(part), Reason::Field.at(place + 2))?;
+    demanded(
+        near_zero(signed32(part, 3), most),
+        Reason::Field.at(place + 3),
+    )
 }
 
 // A rule of a barred move: every field is zero.
-fn check_zero_rule(part: &[u8], at: usize) -> Checked
+fn check_zero_rule(part: &[u8], place: usize) -> Result<(), Refusal>
     requires in_bounds { 7 ≤ length part.now }
-    requires at_bound { at < 10000 }
-    ensures { result ≡ check_zero_rule part.now at }
+    requires place_bound { place < 10000 }
+    ensures { result ≡ check_zero_rule part.now place }
 {
-    let kind = demanded(part[0] == 0, 4, at);
-    let Checked::Fine = kind else {
-        return kind;
-    };
-    let source = demanded(part[1] == 0, 4, at + 1);
-    let Checked::Fine = source else {
-        return source;
-    };
-    let factor = demanded(near_zero(signed8(part, 2), 0), 4, at + 2);
-    let Checked::Fine = factor else {
-        return factor;
-    };
-    demanded(near_zero(signed32(part, 3), 0), 4, at + 3)
+    demanded(part[0] == 0, Reason::Field.at(place))?;
+    demanded(part[1] == 0, Reason::Field.at(place + 1))?;
+    demanded(near_zero(signed8(part, 2), 0), Reason::Field.at(place + 2))?;
+    demanded(near_zero(signed32(part, 3), 0), Reason::Field.at(place + 3))
 }
 
 // The rule of counter v, from the part that starts with its move record.
-fn check_one(part: &[u8], counters: usize, most: u32, at: usize, v: usize) -> Checked
+fn check_one(part: &[u8], counters: usize, most: u32, place: usize, v: usize) -> Result<(), Refusal>
     requires counters_bound { (counters ≤ 3) × (move_size counters ≤ length part.now) }
-    requires at_bound { (at < 9000) × (v < counters) }
-    ensures { result ≡ check_one counters most part.now at v }
+    requires place_bound { (place < 9000) × (v < counters) }
+    ensures { result ≡ check_one counters most part.now place v }
 {
-    let place = 2 + 7 * v;
+    let rule = 2 + 7 * v;
     if part[0] == 0 {
-        return check_zero_rule(&part[place..], at + place);
+        check_zero_rule(&part[rule..], place + rule)
+    } else {
+        check_rule(&part[rule..], counters, most, place + rule)
     }
-    check_rule(&part[place..], counters, most, at + place)
 }
 
 // The rules of a move.
-fn check_rules(part: &[u8], counters: usize, most: u32, at: usize) -> Checked
+fn check_rules(part: &[u8], counters: usize, most: u32, place: usize) -> Result<(), Refusal>
     requires counters_bound { (counters ≤ 3) × (move_size counters ≤ length part.now) }
-    requires at_bound { at < 9000 }
-    ensures { result ≡ each (check_one counters most part.now at) counters }
+    requires place_bound { place < 9000 }
+    ensures { result ≡ each (check_one counters most part.now place) counters }
 {
     for v in 0..counters {
-        let one = check_one(part, counters, most, at, v);
-        let Checked::Fine = one else {
-            return one;
-        };
+        check_one(part, counters, most, place, v)?;
     }
-    Checked::Fine
+    Ok(())
 }
 
 // A move record, from the part that starts with it.
-fn check_move(part: &[u8], counters: usize, most: u32, at: usize) -> Checked
+fn check_move(part: &[u8], counters: usize, most: u32, place: usize) -> Result<(), Refusal>
     requires counters_bound { (counters ≤ 3) × (move_size counters ≤ length part.now) }
-    requires at_bound { at < 9000 }
-    ensures { result ≡ check_move counters most part.now at }
+    requires place_bound { place < 9000 }
+    ensures { result ≡ check_move counters most part.now place }
 {
-    let kind = demanded(part[0] <= 1, 4, at);
-    let Checked::Fine = kind else {
-        return kind;
-    };
+    demanded(part[0] <= 1, Reason::Field.at(place))?;
     if part[0] != 0 {
-        return check_rules(part, counters, most, at);
+        return check_rules(part, counters, most, place);
     }
-    let target = demanded(part[1] == 0, 4, at + 1);
-    let Checked::Fine = target else {
-        return target;
-    };
-    check_rules(part, counters, most, at)
+    demanded(part[1] == 0, Reason::Field.at(place + 1))?;
+    check_rules(part, counters, most, place)
 }
 
 // The start value of counter v.
-fn check_value(s: &[u8], shape: Shape, v: usize) -> Checked
-    requires read { Read s.now shape }
-    requires v_lt_counters { v < shape.counters }
+fn check_value(s: &Sheet<'_>, v: usize) -> Result<(), Refusal>
+    requires { v < counters_of s.now }
     ensures { result ≡ check_value s.now v }
 {
-    let value = start_value(s, shape, v);
-    demanded(near_zero(value, 1000000), 4, start_place(s, shape, v))
+    let value = s.start_value(v);
+    demanded(
+        near_zero(value, 1000000),
+        Reason::Field.at(s.start_place(v)),
+    )
 }
 
 // The start values.
-fn check_values(s: &[u8], shape: Shape) -> Checked
-    requires { Read s.now shape }
+fn check_values(s: &Sheet<'_>) -> Result<(), Refusal>
     ensures { result ≡ each (check_value s.now) (counters_of s.now) }
 {
-    let counters = shape.counters;
+    let counters = s.shape().counters;
     for v in 0..counters {
-        let one = check_value(s, shape, v);
-        let Checked::Fine = one else {
-            return one;
-        };
+        check_value(s, v)?;
     }
-    Checked::Fine
+    Ok(())
 }
 
 // The bounds of counter v in region i: each within its limits, and in order.
-fn check_bound(s: &[u8], shape: Shape, i: usize, v: usize) -> Checked
-    requires read { Read s.now shape }
-    requires i_lt_regions { (i < shape.regions) × (v < shape.counters) }
+fn check_bound(s: &Sheet<'_>, i: usize, v: usize) -> Result<(), Refusal>
+    requires { (i < regions_of s.now) × (v < counters_of s.now) }
     ensures { result ≡ check_bound s.now i v }
 {
-    let at = low_place(s, shape, i, v);
-    let range = range_at(s, shape, i, v);
-    let low = demanded(near_zero(range.low, 1000000), 4, at);
-    let Checked::Fine = low else {
-        return low;
-    };
-    let high = demanded(near_zero(range.high, 1000000), 4, at + shape.width);
-    let Checked::Fine = high else {
-        return high;
-    };
-    demanded(range.low <= range.high, 4, at + shape.width)
+    let low = s.low_place(i, v);
+    let high = low + s.shape().width;
+    let range = s.range_at(i, v);
+    demanded(near_zero(range.low, 1000000), Reason::Field.at(low))?;
+    demanded(near_zero(range.high, 1000000), Reason::Field.at(high))?;
+    demanded(range.low <= range.high, Reason::Field.at(high))
 }
 
 // The bounds of region i.
-fn check_bounds(s: &[u8], shape: Shape, i: usize) -> Checked
-    requires read { Read s.now shape }
-    requires i_lt_regions { i < shape.regions }
+fn check_bounds(s: &Sheet<'_>, i: usize) -> Result<(), Refusal>
+    requires { i < regions_of s.now }
     ensures { result ≡ each (check_bound s.now i) (counters_of s.now) }
 {
-    let counters = shape.counters;
+    let counters = s.shape().counters;
     for v in 0..counters {
-        let one = check_bound(s, shape, i, v);
-        let Checked::Fine = one else {
-            return one;
-        };
+        check_bound(s, i, v)?;
     }
-    Checked::Fine
+    Ok(())
 }
 
 // The moves of region i.
-fn check_moves(s: &[u8], shape: Shape, i: usize) -> Checked
-    requires read { Read s.now shape }
-    requires i_lt_regions { i < shape.regions }
+fn check_moves(s: &Sheet<'_>, i: usize) -> Result<(), Refusal>
+    requires { i < regions_of s.now }
     ensures { result ≡ check_moves s.now i }
 {
-    let counters = shape.counters;
-    let actions = shape.actions;
-    let most = offset_limit(s);
-    for a in 0..actions {
-        let at = move_place(s, shape, i, a);
-        let one = check_move(&s[at..], counters, most, at);
-        let Checked::Fine = one else {
-            return one;
-        };
+    let shape = s.shape();
+    let most = s.offset_limit();
+    for a in 0..shape.actions {
+        let place = s.move_place(i, a);
+        check_move(s.move_part(i, a), shape.counters, most, place)?;
     }
-    Checked::Fine
+    Ok(())
 }
 
 // The fields of region i: its label is not what a run writes for a barred action.
-fn check_region(s: &[u8], shape: Shape, i: usize) -> Checked
-    requires read { Read s.now shape }
-    requires i_lt_regions { i < shape.regions }
+fn check_region(s: &Sheet<'_>, i: usize) -> Result<(), Refusal>
+    requires { i < regions_of s.now }
     ensures { result ≡ check_fields s.now i }
 {
-    let label = demanded(label_at(s, shape, i) < 65535, 4, region_place(s, shape, i));
-    let Checked::Fine = label else {
-        return label;
-    };
-    let bounds = check_bounds(s, shape, i);
-    let Checked::Fine = bounds else {
-        return bounds;
-    };
-    check_moves(s, shape, i)
+    demanded(s.label_at(i) < 65535, Reason::Field.at(s.region_place(i)))?;
+    check_bounds(s, i)?;
+    check_moves(s, i)
 }
 
 // The fields of all regions.
-fn check_regions(s: &[u8], shape: Shape) -> Checked
-    requires { Read s.now shape }
+fn check_regions(s: &Sheet<'_>) -> Result<(), Refusal>
     ensures { result ≡ each (check_fields s.now) (regions_of s.now) }
 {
-    let regions = shape.regions;
+    let regions = s.shape().regions;
     for i in 0..regions {
-        let one = check_region(s, shape, i);
-        let Checked::Fine = one else {
-            return one;
-        };
+        check_region(s, i)?;
     }
-    Checked::Fine
+    Ok(())
 }
 
-// 4: the first field with a value that is not allowed.
-pub fn check_limits(s: &[u8], shape: Shape) -> Checked
-    requires { Read s.now shape }
+/// 4: the first field with a value that is not allowed.
+pub fn check_limits(s: &Sheet<'_>) -> Result<(), Refusal>
     ensures { result ≡ check_limits s.now }
 {
-    let values = check_values(s, shape);
-    let Checked::Fine = values else {
-        return values;
-    };
-    check_regions(s, shape)
+    check_values(s)?;
+    check_regions(s)
 }

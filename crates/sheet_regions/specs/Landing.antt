@@ -1,11 +1,12 @@
 -- Refusal 8 by counting: an open move takes every configuration of its region into some region exactly when the volumes of the
 -- preimages of all regions within it add up to its own.
-use Rattle.std.specs.Prelude.{◌≡◌, refl, ◌↔◌, Bool, true, List, [], ◌∷◌, ℕ, ◌+◌, ◌≤◌, ◌<◌, T, eqb, length, ℤ}
+use Rattle.std.specs.Prelude.{◌≡◌, refl, ◌↔◌, Bool, true, List, [], ◌∷◌, ℕ, ◌+◌, ◌≤◌, ◌<◌, T, eqb, length, ℤ, Ok}
 use Rattle.std.proofs.Common.{sym, ap, subst, ◌∙◌, arith}
 use Rattle.integers.specs.LittleEndian.{Bytes}
 use Rattle.systems.proofs.Laws.{same_test, run_ext}
 use Rattle.systems.proofs.Lists.{length_each}
-use Rattle.answer_rules.specs.declared.Checked.TheVariants.{Fine}
+use Rattle.answer_rules.specs.declared.Reason.TheVariants.{Landing}
+use Rattle.answer_rules.specs.Refusal.{at}
 use Rattle.answer_rules.specs.Stages.{each, demand}
 use Rattle.model.specs.declared.Rule.{Rule}
 use Rattle.model.specs.Sheet.{Box, Move, Barred, Open, within, in_box, landing, moved, RuleFits, Each, MoveFits, open_fits}
@@ -54,8 +55,8 @@ shares s i target rules n = sum (λ j. share (box_at s i) target rules (box_at s
 
 -- a sheet that passed checks 4 and 6
 pub record Passed (s : List ℕ) : Type 0 where
-  pub fields : each (check_fields s) (regions_of s) ≡ Fine
-  pub apart : each (check_overlap s) (regions_of s) ≡ Fine
+  pub fields : each (check_fields s) (regions_of s) ≡ Ok tt
+  pub apart : each (check_overlap s) (regions_of s) ≡ Ok tt
 
 length_box : (s : List ℕ) (i : ℕ) → length (box_at s i).ranges ≡ counters_of s
 unfolding box_at
@@ -98,7 +99,7 @@ every_true (x ∷ l) = every_true l
 abbrev pub lands_all : List ℕ → ℕ → ℕ → Bool
 lands_all s i a = every (λ x. lands s (moved (move_at s i a) x)) (members (box_at s i))
 
-pub lands_check : (s : List ℕ) (i a : ℕ) → check_landing s i a ≡ demand (lands_all s i a) 8 (move_place s i a)
+pub lands_check : (s : List ℕ) (i a : ℕ) → check_landing s i a ≡ demand (lands_all s i a) (at Landing (move_place s i a))
 unfolding check_landing
 lands_check s i a = refl
 

@@ -4,7 +4,6 @@ ghost use Rattle.std.specs.Prelude.{◌≡◌, ◌+◌, ◌<◌};
 ghost use Rattle.answer_rules.specs.Stages.{each};
 ghost use Rattle.model.specs.Blocks.{volume};
 ghost use Rattle.sheet_rules.specs.Layout.{actions_of, regions_of};
-ghost use Rattle.sheet_bytes.specs.Three.{Read};
 ghost use Rattle.sheet_bytes.specs.Cuts.{all_three};
 ghost use Rattle.sheet_bytes.specs.Bounds.{RangesWithin, RulesFit};
 ghost use Rattle.sheet_rules.specs.Check.{check_landing};
@@ -13,11 +12,10 @@ ghost use Rattle.sheet_regions.specs.Tight.{TightThree};
 ghost use Rattle.sheet_regions.specs.Landing.{Passed, lands_all};
 ghost use Rattle.sheet_regions.specs.Shares.{shares_three, Countable};
 
-use answers::Checked;
+use answers::{Reason, Refusal, demanded};
 use machine_integers::ranges::count;
 use sheet_bytes::cutting::cut_by_all;
-use sheet_bytes::fields::{box_at, move_at, move_place};
-use sheet_bytes::{Move, Ranges, RegionBox, RegionMove, Shape};
+use sheet_bytes::{Ranges, RegionBox, RegionMove, Sheet};
 
 // How many value lists the ranges hold.
 fn volume_of(b: Ranges) -> u64
@@ -42,49 +40,52 @@ fn share_of(b: Ranges, m: RegionMove, w: RegionBox) -> u64
 }
 
 // How many of the configurations within b the move takes into no region.
-fn uncovered(s: &[u8], shape: Shape, b: Ranges, m: RegionMove) -> u64
-    requires read { Read s.now shape }
-    requires countable { Countable s.now b m }
+fn uncovered(s: &Sheet<'_>, b: Ranges, m: RegionMove) -> u64
+    requires { Countable s.now b m }
     ensures { result + shares_three s.now b m (regions_of s.now) ≡ volume (all_three b) }
 {
     let mut left = volume_of(b);
-    for j in 0..shape.regions {
-        left = left - share_of(b, m, box_at(s, shape, j));
+    for j in 0..s.shape().regions {
+        left -= share_of(b, m, s.box_at(j));
     }
     left
 }
 
-// Whether action a takes every configuration of region i into some region, or is barred there.
-pub fn lands_all(s: &[u8], shape: Shape, i: usize, a: usize) -> bool
-    requires read { Read s.now shape }
+/// Whether action a takes every configuration of region i into some region, or is barred there.
+pub fn lands_all(s: &Sheet<'_>, i: usize, a: usize) -> bool
     requires passed { Passed s.now }
-    requires i_lt_regions { (i < shape.regions) × (a < shape.actions) }
+    requires i_lt_regions { (i < regions_of s.now) × (a < actions_of s.now) }
     ensures { result ≡ lands_all s.now i a }
 {
-    let m = move_at(s, shape, i, a);
-    let kind = m.kind;
-    let Move::Open = kind else {
+    let Some(m) = s.move_at(i, a) else {
         return true;
     };
-    let home = box_at(s, shape, i);
-    uncovered(s, shape, home.ranges, m) == 0
+    let home = s.box_at(i);
+    uncovered(s, home.ranges, m) == 0
 }
 
-// 8: the first open move that takes some configuration of its region into no region.
-pub fn check_landing(s: &[u8], shape: Shape) -> Checked
-    requires read { Read s.now shape }
+// 8, action a of region i.
+fn check_move(s: &Sheet<'_>, i: usize, a: usize) -> Result<(), Refusal>
     requires passed { Passed s.now }
+    requires i_lt_regions { (i < regions_of s.now) × (a < actions_of s.now) }
+    ensures { result ≡ check_landing s.now i a }
+{
+    let lands = lands_all(s, i, a);
+    demanded(lands, Reason::Landing.at(s.move_place(i, a)))
+}
+
+/// 8: the first open move that takes some configuration of its region into no region.
+pub fn check_landing(s: &Sheet<'_>) -> Result<(), Refusal>
+    requires { Passed s.now }
     ensures { result ≡ each (λ i. each (check_landing s.now i) (actions_of s.now)) (regions_of s.now) }
 {
-    let mut answer = Checked::Fine;
-    'outer: for i in 0..shape.regions {
+    let shape = s.shape();
+    let mut answer = Ok(());
+    'regions: for i in 0..shape.regions {
         for a in 0..shape.actions {
-            if !lands_all(s, shape, i, a) {
-                answer = Checked::Refused {
-                    number: 8,
-                    returned: move_place(s, shape, i, a),
-                };
-                break 'outer;
+            if let Err(refusal) = check_move(s, i, a) {
+                answer = Err(refusal);
+                break 'regions;
             }
         }
     }

@@ -1,11 +1,10 @@
 -- Bytes that pass the check decode to a well-formed sheet, so the theorems of the model apply to them; bytes that are refused 5 to 8 decode to one that is not.
 use Rattle.std.proofs.Math.Path.{◌≡◌, sym, ap, subst}
-use Rattle.std.specs.Prelude.{refl, ◌↔◌, Bool, true, false, not, ℕ, zero, suc, ◌+◌, ◌≤◌, ◌<◌, leb, ltb, drop}
+use Rattle.std.specs.Prelude.{refl, ◌↔◌, Bool, true, false, not, ℕ, zero, suc, ◌+◌, ◌≤◌, ◌<◌, leb, ltb, drop, Option, Some, None, Ok, Err}
 use Rattle.std.proofs.Common.{◌∙◌, lit<, leb→le}
 use Rattle.std.proofs.Math.Logic.{⊎_elim}
 use mathlib.Core.List.Memᴰ
 use mathlib.Core.List.{List, [], ◌∷◌, Memᴰ}
-use Rattle.std.proofs.Math.Option.{Option, some, none}
 use native.Mathlib.Omega.{arith}
 use Rattle.std.proofs.Math.Dec.{T, eqb, eqb→eq, eqb_refl}
 use Rattle.std.proofs.Math.ListN.{length, get_or, get_or-eq_default}
@@ -14,8 +13,10 @@ use Rattle.integers.specs.LittleEndian.{Bytes}
 use Rattle.systems.specs.Search.{any, run}
 use Rattle.systems.proofs.Laws.{told, true_is, both, any_true}
 use Rattle.systems.proofs.Lists.{length_each, get_d_each}
-use Rattle.answer_rules.specs.declared.Checked.{Checked}
-use Rattle.answer_rules.specs.declared.Checked.TheVariants.{Fine, Refused}
+use Rattle.answer_rules.specs.declared.Reason.TheVariants.{Header, Count, Length, Field, Label, Overlap, Start, Landing}
+use Rattle.answer_rules.specs.declared.Reason.{Reason}
+use Rattle.answer_rules.specs.declared.Refusal.{Refusal}
+use Rattle.answer_rules.specs.Refusal.{Checked, number_of, at}
 use Rattle.answer_rules.specs.Stages.{and_then, demand, each}
 use Rattle.answer_rules.proofs.Stages.{then_fine, demand_fine, each_fine, each_all}
 use Rattle.model.specs.Sheet as Model
@@ -34,21 +35,21 @@ use Rattle.sheet_rules.specs.Check.{check_label, check_overlap, covered, check_s
 use Rattle.sheet_rules.proofs.Overlap.{overlap_out, regions_apart}
 use Rattle.sheet_rules.specs.Accepted.{Stages}
 
-pub demanded : (t : Bool) (n p : ℕ) → demand t n p ≡ Fine → T t
-demanded t n p e = true_is t (demand_fine t n p e)
+pub demanded : (t : Bool) (why : Refusal) → demand t why ≡ Ok tt → T t
+demanded t why e = true_is t (demand_fine t why e)
 
 pub between : (m n x : ℕ) → T (from_to m n x) → (m ≤ x) × (x ≤ n)
 between m n x t = let (a, b) = (both (leb m x) (leb x n)).0 t in (leb→le m x a, leb→le x n b)
 
 -- checks 2 and 3 passed
-pub shaped : (s : List ℕ) → check_counts s ≡ Fine → check_length s ≡ Fine → Shaped s
+pub shaped : (s : List ℕ) → check_counts s ≡ Ok tt → check_length s ≡ Ok tt → Shaped s
 unfolding check_counts check_length
 shaped s e l =
-    let (a, r) = then_fine (demand (from_to 1 3 (counters_of s)) 2 5) _ e in
-    let (b, c) = then_fine (demand (from_to 1 8 (actions_of s)) 2 6) (demand (from_to 1 32 (regions_of s)) 2 7) r in
-    let (v, v') = between 1 3 (counters_of s) (demanded _ 2 5 a) in
-    let (w, w') = between 1 8 (actions_of s) (demanded _ 2 6 b) in
-    let (u, u') = between 1 32 (regions_of s) (demanded _ 2 7 c) in
+    let (a, r) = then_fine (demand (from_to 1 3 (counters_of s)) (at Count 5)) _ e in
+    let (b, c) = then_fine (demand (from_to 1 8 (actions_of s)) (at Count 6)) (demand (from_to 1 32 (regions_of s)) (at Count 7)) r in
+    let (v, v') = between 1 3 (counters_of s) (demanded _ (at Count 5) a) in
+    let (w, w') = between 1 8 (actions_of s) (demanded _ (at Count 6) b) in
+    let (u, u') = between 1 32 (regions_of s) (demanded _ (at Count 7) c) in
     record {
       counters_some = v;
       counters_few = v';
@@ -56,10 +57,10 @@ shaped s e l =
       actions_few = w';
       regions_some = u;
       regions_few = u';
-      length_right = eqb→eq (length s) (region_place s (regions_of s)) (demanded _ 3 (length s) l);
+      length_right = eqb→eq (length s) (region_place s (regions_of s)) (demanded _ (at Length (length s)) l);
     }
 
-pub stages : (s : List ℕ) → sheet_check s ≡ Fine → Stages s
+pub stages : (s : List ℕ) → sheet_check s ≡ Ok tt → Stages s
 unfolding sheet_check
 stages s e =
     let (a, r₁) = then_fine (check_header s) _ e in
@@ -72,7 +73,7 @@ stages s e =
     record { shape = shaped s b c; fields = limits_fields s d; labels = f; apart = g; start = h; landing = k }
 
 -- No longer sheet is accepted: a reader of sheets may stop one byte past that length.
-pub accepted_length : (s : List ℕ) → sheet_check s ≡ Fine → length s ≤ 6773
+pub accepted_length : (s : List ℕ) → sheet_check s ≡ Ok tt → length s ≤ 6773
 accepted_length s e = length_le s (stages s e).shape
 
 -- the decoded regions, by index
@@ -133,7 +134,7 @@ module _ (s : List ℕ) (x : Configuration) where
       own : (i a : ℕ) → a < actions_of s → get_or (region_at s i).moves a Barred ≡ move_at s i a
       own i a k = get_d_each (move_at s i) (actions_of s) Barred a k
 
-  pub step_past : (i a : ℕ) → i < regions_of s → actions_of s ≤ a → region_number (decode s) x ≡ i → step (decode s) a x ≡ none
+  pub step_past : (i a : ℕ) → i < regions_of s → actions_of s ≤ a → region_number (decode s) x ≡ i → step (decode s) a x ≡ None
   unfolding step region_of region_at moved
   step_past i a h k e =
       let r : Model.region_at (decode s) (region_number (decode s) x) ≡ region_at s i = ap (Model.region_at (decode s)) e ∙ region_is s i h in
@@ -153,7 +154,7 @@ none_earlier p j = (λ t i h k. clash (any p j) t ((any_true p j).1 (i, h, k)), 
     fresh false e f = tt
 
 -- Accepted bytes are a well-formed sheet.
-module _ (s : List ℕ) (B : Bytes s) (e : sheet_check s ≡ Fine) where
+module _ (s : List ℕ) (B : Bytes s) (e : sheet_check s ≡ Ok tt) where
   S : Stages s
   S = stages s e
 
@@ -172,7 +173,7 @@ module _ (s : List ℕ) (B : Bytes s) (e : sheet_check s ≡ Fine) where
   labels_differ : (i j : ℕ) → i < j → j < regions_of s → label_at s i ≡ label_at s j → ⊥
   unfolding check_label
   labels_differ i j h k q =
-      (none_earlier (λ i. eqb (label_at s i) (label_at s j)) j).0 (demanded _ 5 (region_place s j) (each_fine (check_label s) (regions_of s) S.labels j k)) i h
+      (none_earlier (λ i. eqb (label_at s i) (label_at s j)) j).0 (demanded _ (at Label (region_place s j)) (each_fine (check_label s) (regions_of s) S.labels j k)) i h
       (subst (λ (l : ℕ). T (eqb (label_at s i) l)) q (eqb_refl (label_at s i)))
 
   label_is : (i : ℕ) → i < regions_of s → (Model.region_at (decode s) i).label ≡ label_at s i
@@ -181,17 +182,17 @@ module _ (s : List ℕ) (B : Bytes s) (e : sheet_check s ≡ Fine) where
 
   start_in : Covered (decode s) (start_of s)
   unfolding check_start
-  start_in = (covered_is s (start_of s)).0 (demanded (covered s (start_of s)) 7 8 S.start)
+  start_in = (covered_is s (start_of s)).0 (demanded (covered s (start_of s)) (at Start 8) S.start)
 
   -- an open move of region i takes what is in its box into some region
-  move_lands : (i a : ℕ) (x y : Configuration) → i < regions_of s → a < actions_of s → T (in_box (box_at s i) x) → moved (move_at s i a) x ≡ some y → Covered (decode s) y
+  move_lands : (i a : ℕ) (x y : Configuration) → i < regions_of s → a < actions_of s → T (in_box (box_at s i) x) → moved (move_at s i a) x ≡ Some y → Covered (decode s) y
   unfolding check_landing lands
   move_lands i a x y h k t m =
       let f = each_fine (check_landing s i) (actions_of s) (each_fine (λ i. each (check_landing s i) (actions_of s)) (regions_of s) S.landing i h) a k in
-      let g = every_at (λ x. lands s (moved (move_at s i a) x)) (members (box_at s i)) x (demanded _ 8 (move_place s i a) f) ((members_mem (box_at s i) x).1 t) in
+      let g = every_at (λ x. lands s (moved (move_at s i a) x)) (members (box_at s i)) x (demanded _ (at Landing (move_place s i a)) f) ((members_mem (box_at s i) x).1 t) in
       (covered_is s y).0 (subst (λ (o : Option Configuration). T (lands s o)) m g)
 
-  all_land : (x y : Configuration) (a : ℕ) → Covered (decode s) x → step (decode s) a x ≡ some y → Covered (decode s) y
+  all_land : (x y : Configuration) (a : ℕ) → Covered (decode s) x → step (decode s) a x ≡ Some y → Covered (decode s) y
   unfolding region_of
   all_land x y a c m =
       let n = regions_count s in
@@ -203,7 +204,7 @@ module _ (s : List ℕ) (B : Bytes s) (e : sheet_check s ≡ Fine) where
       (λ q. none_some (sym (step_past s x i a h (ltb-false a (actions_of s) q) refl) ∙ m))
       (told (ltb a (actions_of s)))
     where
-      none_some : none ≡ some y → Covered (decode s) y
+      none_some : None ≡ Some y → Covered (decode s) y
       none_some q = let z : ◌≡◌ {A = ℕ} 0 1 = cc in absurd (omega arith)
 
   pub accepted : WellFormed (decode s)
@@ -230,43 +231,43 @@ module _ (s : List ℕ) (B : Bytes s) (e : sheet_check s ≡ Fine) where
       }
 
 -- A well-formed sheet passes 5 to 8.
-passed_by : (t : Bool) (n p : ℕ) → T t → demand t n p ≡ Fine
+passed_by : (t : Bool) (why : Refusal) → T t → demand t why ≡ Ok tt
 unfolding demand
-passed_by true n p h = refl
-passed_by false n p h = absurd h
+passed_by true why h = refl
+passed_by false why h = absurd h
 
 module _ (s : List ℕ) (W : WellFormed (decode s)) where
-  labels_pass : each (check_label s) (regions_of s) ≡ Fine
+  labels_pass : each (check_label s) (regions_of s) ≡ Ok tt
   unfolding check_label region_at
   labels_pass =
       let n = regions_count s in
       each_all (check_label s) (regions_of s) (λ j h.
-      passed_by _ 5 (region_place s j) ((none_earlier (λ i. eqb (label_at s i) (label_at s j)) j).1 (λ i k t.
+      passed_by _ (at Label (region_place s j)) ((none_earlier (λ i. eqb (label_at s i) (label_at s j)) j).1 (λ i k t.
       let a = ap (λ (r : Region). r.label) (region_is s i (omega arith)) in
       let b = ap (λ (r : Region). r.label) (region_is s j h) in
       W.labels_distinct i j k (omega arith) (a ∙ eqb→eq (label_at s i) (label_at s j) t ∙ sym b))))
 
-  overlap_pass : each (check_overlap s) (regions_of s) ≡ Fine
+  overlap_pass : each (check_overlap s) (regions_of s) ≡ Ok tt
   unfolding check_overlap
   overlap_pass =
       let n = regions_count s in
       each_all (check_overlap s) (regions_of s) (λ j h.
-      passed_by _ 6 (region_place s j) ((none_earlier (λ i. overlap s i j) j).1 (λ i k t.
+      passed_by _ (at Overlap (region_place s j)) ((none_earlier (λ i. overlap s i j) j).1 (λ i k t.
       let (x, p, q) = overlap_out s i j t in
       W.regions_disjoint i j x k (omega arith)
       (subst (λ (b : Box). T (in_box b x)) (sym (box_is s i (omega arith))) p)
       (subst (λ (b : Box). T (in_box b x)) (sym (box_is s j h)) q))))
 
-  start_pass : check_start s ≡ Fine
+  start_pass : check_start s ≡ Ok tt
   unfolding check_start decode
-  start_pass = passed_by (covered s (start_of s)) 7 8 ((covered_is s (start_of s)).1 W.start_covered)
+  start_pass = passed_by (covered s (start_of s)) (at Start 8) ((covered_is s (start_of s)).1 W.start_covered)
 
-  landing_pass : each (λ i. each (check_landing s i) (actions_of s)) (regions_of s) ≡ Fine
+  landing_pass : each (λ i. each (check_landing s i) (actions_of s)) (regions_of s) ≡ Ok tt
   unfolding check_landing
   landing_pass =
       each_all (λ i. each (check_landing s i) (actions_of s)) (regions_of s) (λ i h.
       each_all (check_landing s i) (actions_of s) (λ a k.
-      passed_by _ 8 (move_place s i a) (every_all (λ x. lands s (moved (move_at s i a) x)) (members (box_at s i)) (λ x m. lands_from i a x h k ((members_mem (box_at s i) x).0 m)))))
+      passed_by _ (at Landing (move_place s i a)) (every_all (λ x. lands s (moved (move_at s i a) x)) (members (box_at s i)) (λ x m. lands_from i a x h k ((members_mem (box_at s i) x).0 m)))))
     where
       lands_from : (i a : ℕ) (x : Configuration) → i < regions_of s → a < actions_of s → T (in_box (box_at s i) x) → T (lands s (moved (move_at s i a) x))
       lands_from i a x h k t =
@@ -277,85 +278,86 @@ module _ (s : List ℕ) (W : WellFormed (decode s)) where
           go (moved (move_at s i a) x) (step_is s x i a h k (number_is (decode s) W i x l b)) c
         where
           go : (o : Option Configuration) → step (decode s) a x ≡ o → Covered (decode s) x → T (lands s o)
-          go none q c = none_lands
+          go None q c = none_lands
             where
-              none_lands : T (lands s none)
+              none_lands : T (lands s None)
               none_lands = unfold lands in tt
-          go (some y) q c = unfold lands in (covered_is s y).1 (W.moves_land x y a c q)
+          go (Some y) q c = unfold lands in (covered_is s y).1 (W.moves_land x y a c q)
 
 -- every refusal of a check has a number below 5
 abbrev Early : Checked → Type 0
-Early c = (n p : ℕ) → c ≡ Refused n p → n < 5
+Early c = (why : Refusal) → c ≡ Err why → number_of why.reason < 5
 
-early_demand : (t : Bool) (k q : ℕ) → k < 5 → Early (demand t k q)
+early_demand : (t : Bool) (r : Reason) (q : ℕ) → number_of r < 5 → Early (demand t (at r q))
 unfolding demand
-early_demand true k q h n p e = let z : ◌≡◌ {A = ℕ} 0 1 = cc in absurd (omega arith)
-early_demand false k q h n p e = let z : k ≡ n = cc in omega arith
+early_demand true r q h why e = absurd cc
+early_demand false r q h why e = let z : at r q ≡ why = cc in subst (λ (w : Refusal). number_of w.reason < 5) z h
 
-early_fine : (c : Checked) → c ≡ Fine → Early c
-early_fine c f n p e = let z : ◌≡◌ {A = ℕ} 0 1 = cc in absurd (omega arith)
+early_fine : (c : Checked) → c ≡ Ok tt → Early c
+early_fine (Ok _) f why e = absurd cc
+early_fine (Err w) f why e = absurd cc
 
 early_then : (a b : Checked) → Early a → Early b → Early (and_then a b)
 unfolding and_then
-early_then Fine b h k = k
-early_then (Refused m q) b h k = h
+early_then (Ok _) b h k = k
+early_then (Err why) b h k = h
 
 early_each : (f : ℕ → Checked) (n : ℕ) → ((i : ℕ) → Early (f i)) → Early (each f n)
 unfolding run
-early_each f zero h = early_fine Fine refl
+early_each f zero h = early_fine (Ok tt) refl
 early_each f (suc n) h = early_then (each f n) (f n) (early_each f n h) (h n)
 
-early_rule : (V# most : ℕ) (p : List ℕ) (at : ℕ) → Early (check_rule V# most p at)
+early_rule : (V# most : ℕ) (p : List ℕ) (place : ℕ) → Early (check_rule V# most p place)
 unfolding check_rule
-early_rule V# most p at =
-    early_then _ _ (early_demand _ 4 at (lit< tt))
-    (early_then _ _ (early_demand _ 4 (at + 1) (lit< tt)) (early_then _ _ (early_demand _ 4 (at + 2) (lit< tt)) (early_demand _ 4 (at + 3) (lit< tt))))
+early_rule V# most p place =
+    early_then _ _ (early_demand _ Field place (lit< tt))
+    (early_then _ _ (early_demand _ Field (place + 1) (lit< tt)) (early_then _ _ (early_demand _ Field (place + 2) (lit< tt)) (early_demand _ Field (place + 3) (lit< tt))))
 
-early_zero : (p : List ℕ) (at : ℕ) → Early (check_zero_rule p at)
+early_zero : (p : List ℕ) (place : ℕ) → Early (check_zero_rule p place)
 unfolding check_zero_rule
-early_zero p at =
-    early_then _ _ (early_demand _ 4 at (lit< tt))
-    (early_then _ _ (early_demand _ 4 (at + 1) (lit< tt)) (early_then _ _ (early_demand _ 4 (at + 2) (lit< tt)) (early_demand _ 4 (at + 3) (lit< tt))))
+early_zero p place =
+    early_then _ _ (early_demand _ Field place (lit< tt))
+    (early_then _ _ (early_demand _ Field (place + 1) (lit< tt)) (early_then _ _ (early_demand _ Field (place + 2) (lit< tt)) (early_demand _ Field (place + 3) (lit< tt))))
 
-early_move : (V# most : ℕ) (p : List ℕ) (at : ℕ) → Early (check_move V# most p at)
+early_move : (V# most : ℕ) (p : List ℕ) (place : ℕ) → Early (check_move V# most p place)
 unfolding check_move
-early_move V# most p at = early_then _ _ (early_demand _ 4 at (lit< tt)) (go (eqb (kind_of p) 0))
+early_move V# most p place = early_then _ _ (early_demand _ Field place (lit< tt)) (go (eqb (kind_of p) 0))
   where
     go : (k : Bool) → Early (elim k [
-      | true ↦ and_then (demand (eqb (get_or p 1 0) 0) 4 (at + 1)) (each (λ v. check_zero_rule (drop (rule_place v) p) (at + rule_place v)) V#)
-      | false ↦ each (λ v. check_rule V# most (drop (rule_place v) p) (at + rule_place v)) V#
+      | true ↦ and_then (demand (eqb (get_or p 1 0) 0) (at Field (place + 1))) (each (λ v. check_zero_rule (drop (rule_place v) p) (place + rule_place v)) V#)
+      | false ↦ each (λ v. check_rule V# most (drop (rule_place v) p) (place + rule_place v)) V#
     ])
-    go true = early_then _ _ (early_demand _ 4 (at + 1) (lit< tt)) (early_each _ V# (λ v. early_zero (drop (rule_place v) p) (at + rule_place v)))
-    go false = early_each _ V# (λ v. early_rule V# most (drop (rule_place v) p) (at + rule_place v))
+    go true = early_then _ _ (early_demand _ Field (place + 1) (lit< tt)) (early_each _ V# (λ v. early_zero (drop (rule_place v) p) (place + rule_place v)))
+    go false = early_each _ V# (λ v. early_rule V# most (drop (rule_place v) p) (place + rule_place v))
 
 early_bound : (s : List ℕ) (i v : ℕ) → Early (check_bound s i v)
 unfolding check_bound
 early_bound s i v =
-    early_then _ _ (early_demand _ 4 (low_place s i v) (lit< tt))
-    (early_then _ _ (early_demand _ 4 (high_place s i v) (lit< tt)) (early_demand _ 4 (high_place s i v) (lit< tt)))
+    early_then _ _ (early_demand _ Field (low_place s i v) (lit< tt))
+    (early_then _ _ (early_demand _ Field (high_place s i v) (lit< tt)) (early_demand _ Field (high_place s i v) (lit< tt)))
 
 early_fields : (s : List ℕ) (i : ℕ) → Early (check_fields s i)
 unfolding check_fields
 early_fields s i =
-    early_then _ _ (early_demand _ 4 (region_place s i) (lit< tt))
+    early_then _ _ (early_demand _ Field (region_place s i) (lit< tt))
     (early_then _ _ (early_each _ (counters_of s) (early_bound s i))
     (early_each _ (actions_of s) (λ a. early_move (counters_of s) (offset_limit s) (move_part s i a) (move_place s i a))))
 
 early_limits : (s : List ℕ) → Early (check_limits s)
 unfolding check_limits check_value
 early_limits s =
-    early_then _ _ (early_each _ (counters_of s) (λ v. early_demand _ 4 (start_place s v) (lit< tt))) (early_each (check_fields s) (regions_of s) (early_fields s))
+    early_then _ _ (early_each _ (counters_of s) (λ v. early_demand _ Field (start_place s v) (lit< tt))) (early_each (check_fields s) (regions_of s) (early_fields s))
 
 -- Bytes that are refused 5 to 8 are no well-formed sheet.
-pub refused_late : (s : List ℕ) (n p : ℕ) → sheet_check s ≡ Refused n p → 5 ≤ n → WellFormed (decode s) → ⊥
+pub refused_late : (s : List ℕ) (why : Refusal) → sheet_check s ≡ Err why → 5 ≤ number_of why.reason → WellFormed (decode s) → ⊥
 unfolding sheet_check check_header check_counts check_length
-refused_late s n p e h W =
+refused_late s why e h W =
     let early =
-    early_then (check_header s) _ (early_demand _ 1 0 (lit< tt))
+    early_then (check_header s) _ (early_demand _ Header 0 (lit< tt))
     (early_then (check_counts s) _
-    (early_then _ _ (early_demand _ 2 5 (lit< tt)) (early_then _ _ (early_demand _ 2 6 (lit< tt)) (early_demand _ 2 7 (lit< tt))))
-    (early_then (check_length s) _ (early_demand _ 3 (length s) (lit< tt))
+    (early_then _ _ (early_demand _ Count 5 (lit< tt)) (early_then _ _ (early_demand _ Count 6 (lit< tt)) (early_demand _ Count 7 (lit< tt))))
+    (early_then (check_length s) _ (early_demand _ Length (length s) (lit< tt))
     (early_then (check_limits s) _ (early_limits s)
     (early_then _ _ (early_fine _ (labels_pass s W))
     (early_then _ _ (early_fine _ (overlap_pass s W)) (early_then _ _ (early_fine _ (start_pass s W)) (early_fine _ (landing_pass s W)))))))) in
-    omega (arith, early n p e)
+    omega (arith, early why e)

@@ -1,5 +1,5 @@
 -- Two regions of a sheet overlap exactly when some configuration is in both.
-use Rattle.std.specs.Prelude.{◌≡◌, refl, ◌↔◌, List, [], ◌∷◌, eqb, length, get_or, pos}
+use Rattle.std.specs.Prelude.{◌≡◌, refl, ◌↔◌, List, [], ◌∷◌, eqb, length, get_or, pos, Ok}
 use Rattle.std.proofs.Math.Path.{sym, subst}
 use Rattle.std.proofs.Common.{ap, ◌∙◌, arith, not-suc-le-zero, le_of_suc-le-suc, eqb→eq, T_not}
 use Rattle.std.proofs.Math.Bool.{not}
@@ -13,7 +13,8 @@ use Rattle.integers.proofs.RangeLaws.{meet_contains, vacant_none, vacant_not}
 use Rattle.systems.specs.Search.{any, all}
 use Rattle.systems.proofs.Laws.{both, is_false, not_true, any_true, all_true}
 use Rattle.systems.proofs.Lists.{length_each, get_d_each}
-use Rattle.answer_rules.specs.declared.Checked.TheVariants.{Fine}
+use Rattle.answer_rules.specs.declared.Reason.TheVariants.{Overlap}
+use Rattle.answer_rules.specs.Refusal.{at}
 use Rattle.answer_rules.specs.Stages.{each}
 use Rattle.answer_rules.proofs.Stages.{demand_fine, each_fine}
 use Rattle.model.specs.Sheet.{Configuration, within, in_box}
@@ -105,10 +106,10 @@ module _ (s : List ℕ) where
   overlap_exact i j = (overlap_out i j, λ (x, t, u). overlap_in i j x t u)
 
   -- Regions that passed check 6 have no configuration in common.
-  pub regions_apart : each (check_overlap s) (regions_of s) ≡ Fine → (i j : ℕ) (x : Configuration) → i < j → j < regions_of s
+  pub regions_apart : each (check_overlap s) (regions_of s) ≡ Ok tt → (i j : ℕ) (x : Configuration) → i < j → j < regions_of s
       → T (in_box (box_at s i) x) → T (in_box (box_at s j) x) → ⊥
   unfolding check_overlap
   regions_apart e i j x h k t u =
       let d = each_fine (check_overlap s) (regions_of s) e j k in
-      let n = untrue (any (λ i. overlap s i j) j) (demand_fine (not (any (λ i. overlap s i j) j)) 6 (region_place s j) d) in
+      let n = untrue (any (λ i. overlap s i j) j) (demand_fine (not (any (λ i. overlap s i j) j)) (at Overlap (region_place s j)) d) in
       not_true (any (λ i. overlap s i j) j) n ((any_true (λ i. overlap s i j) j).1 (i, h, overlap_in i j x t u))

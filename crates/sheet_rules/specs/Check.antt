@@ -1,10 +1,10 @@
 -- Which bytes are a sheet, and how others are refused (document 01, "Turned back", 1 to 8; the form, 1 to 4, stands in Form.antt). Definitions
 -- only. Checks run by rising number; each looks for the first place such that.
-use Rattle.std.specs.Prelude.{Bool, true, ◌&&◌, not, List, [], ◌∷◌, ℕ, eqb}
-use Rattle.std.proofs.Math.Option.{Option, some, none}
+use Rattle.std.specs.Prelude.{Bool, true, ◌&&◌, not, List, [], ◌∷◌, ℕ, eqb, Option, Some, None}
 use Rattle.integers.specs.Range.{meet, vacant}
 use Rattle.systems.specs.Search.{any, all}
-use Rattle.answer_rules.specs.declared.Checked.{Checked}
+use Rattle.answer_rules.specs.declared.Reason.TheVariants.{Label, Overlap, Start, Landing}
+use Rattle.answer_rules.specs.Refusal.{Checked, at}
 use Rattle.answer_rules.specs.Stages.{and_then, demand, each}
 use Rattle.model.specs.Sheet.{Configuration, moved, in_box}
 use Rattle.model.specs.Listing.{members}
@@ -14,7 +14,7 @@ use Rattle.sheet_rules.specs.Form.{check_header, check_counts, check_length, che
 
 -- 5, region j: an earlier region has its label
 unfoldable pub check_label : List ℕ → ℕ → Checked
-check_label s j = demand (not (any (λ i. eqb (label_at s i) (label_at s j)) j)) 5 (region_place s j)
+check_label s j = demand (not (any (λ i. eqb (label_at s i) (label_at s j)) j)) (at Label (region_place s j))
 
 -- two boxes share a configuration: they have one state, and each counter's ranges meet
 unfoldable pub overlap : List ℕ → ℕ → ℕ → Bool
@@ -22,7 +22,7 @@ overlap s i j = eqb (state_at s i) (state_at s j) && all (λ v. not (vacant (mee
 
 -- 6, region j: an earlier region shares a configuration with it
 unfoldable pub check_overlap : List ℕ → ℕ → Checked
-check_overlap s j = demand (not (any (λ i. overlap s i j) j)) 6 (region_place s j)
+check_overlap s j = demand (not (any (λ i. overlap s i j) j)) (at Overlap (region_place s j))
 
 -- the configuration is in some region of the sheet
 abbrev pub covered : List ℕ → Configuration → Bool
@@ -30,7 +30,7 @@ covered s x = any (λ i. in_box (box_at s i) x) (regions_of s)
 
 -- 7: the start is in no region
 unfoldable pub check_start : List ℕ → Checked
-check_start s = demand (covered s (start_of s)) 7 8
+check_start s = demand (covered s (start_of s)) (at Start 8)
 
 -- every element of a list passes
 unfoldable pub every : {A : Type 0} → (A → Bool) → List A → Bool
@@ -39,12 +39,12 @@ every p (x ∷ l) = p x && every p l
 
 -- a move takes the configuration into some region, or is barred
 unfoldable pub lands : List ℕ → Option Configuration → Bool
-lands s none = true
-lands s (some y) = covered s y
+lands s None = true
+lands s (Some y) = covered s y
 
 -- 8, action a of region i: it takes some configuration of the region into no region
 unfoldable pub check_landing : List ℕ → ℕ → ℕ → Checked
-check_landing s i a = demand (every (λ x. lands s (moved (move_at s i a) x)) (members (box_at s i))) 8 (move_place s i a)
+check_landing s i a = demand (every (λ x. lands s (moved (move_at s i a) x)) (members (box_at s i))) (at Landing (move_place s i a))
 
 -- The check of a sheet.
 unfoldable pub sheet_check : List ℕ → Checked

@@ -1,10 +1,9 @@
 -- Equivalence of configurations: what a reading says, the one-step law, equivalence to a depth, and bisimulations.
-use Rattle.std.specs.Prelude.{ℕ, zero, suc, ◌≤◌, ◌<◌, ◌≡◌, ◌↔◌, List, [], ◌∷◌, T, eqb, length}
+use Rattle.std.specs.Prelude.{ℕ, zero, suc, ◌≤◌, ◌<◌, ◌≡◌, ◌↔◌, List, [], ◌∷◌, T, eqb, length, Option, Some, None, option_map}
 use Rattle.std.proofs.Common.{le_of_suc-le-suc, not-suc-le-zero, le_refl, le_trans, arith, sym, ap, subst, ◌∙◌}
 use Rattle.std.proofs.Math.Decide.{dec_lt}
 use Rattle.std.proofs.Math.Path.{refl}
 use Rattle.std.proofs.Math.Logic.{Equivalence}
-use Rattle.std.proofs.Math.Option.{Option, some, none, map}
 use Rattle.systems.proofs.Laws.{both, eqb_tells}
 use Rattle.systems.specs.System.{System, Reading, same_numbers, same_index, same_reading, after, entry, written, earliest, first_barred, reading, Alike, Below, below_nil, below_cons}
 use Rattle.systems.specs.Alike.{before, skipping, Both, both_barred, both_open, AlikeOn, AlikeTo, Bisimulation}
@@ -38,10 +37,10 @@ numbers_tell (x ∷ l) (y ∷ m) = (
 
 index_tells : (o u : Option ℕ) → T (same_index o u) ↔ (o ≡ u)
 unfolding same_index
-index_tells none none = (λ t. refl, λ e. tt)
-index_tells none (some j) = (λ t. absurd t, λ e. let z : ◌≡◌ {A = ℕ} 0 1 = cc in absurd (omega arith))
-index_tells (some i) none = (λ t. absurd t, λ e. let z : ◌≡◌ {A = ℕ} 0 1 = cc in absurd (omega arith))
-index_tells (some i) (some j) = (λ t. ap some ((eqb_tells i j).0 t), λ e. (eqb_tells i j).1 (cc))
+index_tells None None = (λ t. refl, λ e. tt)
+index_tells None (Some j) = (λ t. absurd t, λ e. let z : ◌≡◌ {A = ℕ} 0 1 = cc in absurd (omega arith))
+index_tells (Some i) None = (λ t. absurd t, λ e. let z : ◌≡◌ {A = ℕ} 0 1 = cc in absurd (omega arith))
+index_tells (Some i) (Some j) = (λ t. ap Some ((eqb_tells i j).0 t), λ e. (eqb_tells i j).1 (cc))
 
 -- the test of readings tells whether they are equal
 pub reading_tells : (r q : Reading) → T (same_reading r q) ↔ (r ≡ q)
@@ -56,12 +55,12 @@ reading_tells r q = (
 )
 
 -- What the first action of a sequence does to a reading: after an open one come the label where it leads and what is read from there,
-pub reading_open : {X : Type 0} (s : System X) (a : ℕ) (w : List ℕ) (x y : X) → s.step a x ≡ some y → reading s (a ∷ w) x ≡ before (s.label x) (reading s w y)
+pub reading_open : {X : Type 0} (s : System X) (a : ℕ) (w : List ℕ) (x y : X) → s.step a x ≡ Some y → reading s (a ∷ w) x ≡ before (s.label x) (reading s w y)
 unfolding reading written first_barred entry after earliest before
 reading_open s a w x y e = rw e refl
 
 -- after a barred one 65,535, and what is read from where it stood.
-pub reading_barred : {X : Type 0} (s : System X) (a : ℕ) (w : List ℕ) (x : X) → s.step a x ≡ none → reading s (a ∷ w) x ≡ skipping (s.label x) (written s w x)
+pub reading_barred : {X : Type 0} (s : System X) (a : ℕ) (w : List ℕ) (x : X) → s.step a x ≡ None → reading s (a ∷ w) x ≡ skipping (s.label x) (written s w x)
 unfolding reading written first_barred entry after earliest skipping
 reading_barred s a w x e = rw e refl
 
@@ -74,22 +73,22 @@ reading_parts s t w x y e =
     (cc, cc)
 
 -- one more than an index: the same only of the same, and never 0
-pub map_suc_inj : (o u : Option ℕ) → map suc o ≡ map suc u → o ≡ u
-map_suc_inj none none e = refl
-map_suc_inj none (some n) e = let z : ◌≡◌ {A = ℕ} 0 1 = cc in absurd (omega arith)
-map_suc_inj (some m) none e = let z : ◌≡◌ {A = ℕ} 0 1 = cc in absurd (omega arith)
-map_suc_inj (some m) (some n) e = cc
+pub map_suc_inj : (o u : Option ℕ) → option_map suc o ≡ option_map suc u → o ≡ u
+map_suc_inj None None e = refl
+map_suc_inj None (Some n) e = let z : ◌≡◌ {A = ℕ} 0 1 = cc in absurd (omega arith)
+map_suc_inj (Some m) None e = let z : ◌≡◌ {A = ℕ} 0 1 = cc in absurd (omega arith)
+map_suc_inj (Some m) (Some n) e = cc
 
-pub map_suc_zero : (o : Option ℕ) → map suc o ≡ some 0 → ⊥
-map_suc_zero none e = let z : ◌≡◌ {A = ℕ} 0 1 = cc in omega arith
-map_suc_zero (some k) e = let z : suc k ≡ 0 = cc in omega arith
+pub map_suc_zero : (o : Option ℕ) → option_map suc o ≡ Some 0 → ⊥
+map_suc_zero None e = let z : ◌≡◌ {A = ℕ} 0 1 = cc in omega arith
+map_suc_zero (Some k) e = let z : suc k ≡ 0 = cc in omega arith
 
 -- one label and one open action before two readings: equal only where both parts are
 before_inj : (l m : ℕ) (r q : Reading) → before l r ≡ before m q → r ≡ q
 unfolding before
 before_inj l m r q e =
     let p : l ∷ r.entries ≡ m ∷ q.entries = ap (λ (z : Reading). z.entries) e in
-    let b : map suc r.barred ≡ map suc q.barred = ap (λ (z : Reading). z.barred) e in
+    let b : option_map suc r.barred ≡ option_map suc q.barred = ap (λ (z : Reading). z.barred) e in
     reading_eq (cc) (map_suc_inj r.barred q.barred b)
 
 -- a reading whose first action is open is none whose first action is barred
@@ -99,12 +98,12 @@ before_skipping l m r rest e = map_suc_zero r.barred (ap (λ (z : Reading). z.ba
 
 module _ {X Y : Type 0} (s : System X) (t : System Y) (a : ℕ) (w : List ℕ) (x : X) (y : Y) where
   -- An action that is open in one and barred in the other tells them apart, whatever follows;
-  pub barred_differs : (x' : X) → s.step a x ≡ some x' → t.step a y ≡ none → reading s (a ∷ w) x ≡ reading t (a ∷ w) y → ⊥
+  pub barred_differs : (x' : X) → s.step a x ≡ Some x' → t.step a y ≡ None → reading s (a ∷ w) x ≡ reading t (a ∷ w) y → ⊥
   barred_differs x' p q e =
       before_skipping (s.label x) (t.label y) (reading s w x') (written t w y) (sym (reading_open s a w x x' p) ∙ e ∙ reading_barred t a w y q)
 
   -- where it is open in both, equal readings go on to equal ones.
-  pub open_next : (x' : X) (y' : Y) → s.step a x ≡ some x' → t.step a y ≡ some y' → reading s (a ∷ w) x ≡ reading t (a ∷ w) y → reading s w x' ≡ reading t w y'
+  pub open_next : (x' : X) (y' : Y) → s.step a x ≡ Some x' → t.step a y ≡ Some y' → reading s (a ∷ w) x ≡ reading t (a ∷ w) y → reading s w x' ≡ reading t w y'
   open_next x' y' p q e =
       before_inj (s.label x) (t.label y) (reading s w x') (reading t w y') (sym (reading_open s a w x x' p) ∙ e ∙ reading_open t a w y y' q)
 
@@ -117,14 +116,14 @@ both_sym both_barred = both_barred
 both_sym (both_open r) = both_open r
 
 -- where one of the two steps is open, so is the other
-pub both_right : {X Y : Type 0} {R : X → Y → Type 0} (o : Option X) {u : Option Y} {x : X} → Both R o u → o ≡ some x → (y : Y) × (u ≡ some y) × R x y
-both_right none b e = let z : ◌≡◌ {A = ℕ} 0 1 = cc in absurd (omega arith)
-both_right {X} {Y} {R} (some x') {u} {x} b e = go b
+pub both_right : {X Y : Type 0} {R : X → Y → Type 0} (o : Option X) {u : Option Y} {x : X} → Both R o u → o ≡ Some x → (y : Y) × (u ≡ Some y) × R x y
+both_right None b e = let z : ◌≡◌ {A = ℕ} 0 1 = cc in absurd (omega arith)
+both_right {X} {Y} {R} (Some x') {u} {x} b e = go b
   where
-    go : {u' : Option Y} → Both R (some x') u' → (y : Y) × (u' ≡ some y) × R x y
+    go : {u' : Option Y} → Both R (Some x') u' → (y : Y) × (u' ≡ Some y) × R x y
     go (both_open {y = y} r) = (y, refl, subst (λ (z : X). R z y) (cc) r)
 
-pub both_left : {X Y : Type 0} {R : X → Y → Type 0} {o : Option X} (u : Option Y) {y : Y} → Both R o u → u ≡ some y → (x : X) × (o ≡ some x) × R x y
+pub both_left : {X Y : Type 0} {R : X → Y → Type 0} {o : Option X} (u : Option Y) {y : Y} → Both R o u → u ≡ Some y → (x : X) × (o ≡ Some x) × R x y
 both_left u b e = both_right u (both_sym b) e
 
 -- Related steps go on to equal readings, where what a barred action leaves reads the same.
@@ -149,10 +148,10 @@ pub both_next : {X Y : Type 0} (P : List ℕ → Type 0) (s : System X) (t : Sys
 both_next {X} {Y} P s t a x y p h = go (s.step a x) (t.step a y) refl refl
   where
     go : (o : Option X) (u : Option Y) → s.step a x ≡ o → t.step a y ≡ u → Both (AlikeOn P s t) (s.step a x) (t.step a y)
-    go none none e f = rw (e, f) both_barred
-    go none (some y') e f = absurd (barred_differs t s a [] y x y' f e (sym (h [] p)))
-    go (some x') none e f = absurd (barred_differs s t a [] x y x' e f (h [] p))
-    go (some x') (some y') e f = rw (e, f) (both_open (λ w q. open_next s t a w x y x' y' e f (h w q)))
+    go None None e f = rw (e, f) both_barred
+    go None (Some y') e f = absurd (barred_differs t s a [] y x y' f e (sym (h [] p)))
+    go (Some x') None e f = absurd (barred_differs s t a [] x y x' e f (h [] p))
+    go (Some x') (Some y') e f = rw (e, f) (both_open (λ w q. open_next s t a w x y x' y' e f (h w q)))
 
 module _ {X Y : Type 0} (s : System X) (t : System Y) where
   labels_eq : (x : X) (y : Y) → reading s [] x ≡ reading t [] y → s.label x ≡ t.label y
@@ -236,7 +235,7 @@ alike_to_equivalence k s = record { refl = λ x w l. refl; symm = λ x y h w l. 
 
 -- Where both systems bar every action from n on, the sequences of actions below n tell all.
 pub alike_below : {X Y : Type 0} (s : System X) (t : System Y) (n : ℕ)
-    → ((a : ℕ) → n ≤ a → (x : X) → s.step a x ≡ none) → ((a : ℕ) → n ≤ a → (y : Y) → t.step a y ≡ none)
+    → ((a : ℕ) → n ≤ a → (x : X) → s.step a x ≡ None) → ((a : ℕ) → n ≤ a → (y : Y) → t.step a y ≡ None)
     → (x : X) (y : Y) → AlikeOn (Below n) s t x y ↔ Alike s t x y
 alike_below {X} {Y} s t n hs ht x y = (λ h. bisimilar_alike s t (record { label = label; next = next }) x y h, λ h w b. h w)
   where
@@ -252,7 +251,7 @@ alike_below {X} {Y} s t n hs ht x y = (λ h. bisimilar_alike s t (record { label
 
 -- The same to a depth.
 pub alike_to_below : {X Y : Type 0} (s : System X) (t : System Y) (n : ℕ)
-    → ((a : ℕ) → n ≤ a → (x : X) → s.step a x ≡ none) → ((a : ℕ) → n ≤ a → (y : Y) → t.step a y ≡ none)
+    → ((a : ℕ) → n ≤ a → (x : X) → s.step a x ≡ None) → ((a : ℕ) → n ≤ a → (y : Y) → t.step a y ≡ None)
     → (k : ℕ) (x : X) (y : Y) → AlikeOn (λ w. Below n w × (length w ≤ k)) s t x y → AlikeTo k s t x y
 alike_to_below s t n hs ht zero x y h = (alike_to_zero s t x y).1 (reading_parts s t [] x y (h [] (below_nil, omega arith))).0
 alike_to_below {X} {Y} s t n hs ht (suc k) x y h =

@@ -1,9 +1,7 @@
 -- Laws of dictionary order, alone and behind the length, and of the search through all lists in such an order.
-use Rattle.std.specs.Prelude.{◌≡◌, Bool, true, false, ◌↔◌, ◌⊎◌, List, [], ◌∷◌, ◌++◌, map, T, length, get_or}
+use Rattle.std.specs.Prelude.{◌≡◌, Bool, true, false, ◌↔◌, ◌⊎◌, List, [], ◌∷◌, ◌++◌, map, T, length, get_or, Option, None, Some, option_map}
 use Rattle.std.proofs.Math.Path.{refl, subst}
 use Rattle.std.proofs.Common.{sym, ap, ◌∙◌, inl, inr, ⊎_elim, arith, le_of_suc-le-suc, length-append}
-use Rattle.std.proofs.Math.Option
-use Rattle.std.proofs.Math.Option.{Option, none, some}
 use Prim.Native.Nat.{ℕ, zero, suc, ◌<◌}
 use Rattle.std.proofs.Math.Nat.{not-suc-le-zero}
 use Rattle.systems.specs.Lists.{collect}
@@ -150,46 +148,46 @@ module _ {A : Type 0} {R : A → A → Type 0} {P : A → Type 0} {p : A → Boo
 
   -- Where of any two elements one is before the other, the first that passes is what is found.
   pub found_is : {o : Option A} → Found R P p o → ((x y : A) → P x → P y → (x ≡ y) ⊎ (R x y ⊎ R y x))
-      → (x : A) → P x → T (p x) → ((y : A) → P y → T (p y) → R y x → ⊥) → o ≡ some x
+      → (x : A) → P x → T (p x) → ((y : A) → P y → T (p y) → R y x → ⊥) → o ≡ Some x
   found_is (nothing f) order x c t g = absurd (f x c t)
   found_is (found {x = y} d u f) order x c t g =
-      ⊎_elim (λ e. ap some e) (λ o. absurd (⊎_elim (λ r. g y d u r) (λ r. f x c t r) o)) (order y x d c)
+      ⊎_elim (λ e. ap Some e) (λ o. absurd (⊎_elim (λ r. g y d u r) (λ r. f x c t r) o)) (order y x d c)
 
 -- a search through one list and then another, and through lists that begin alike
-first_append : {A : Type 0} (p : A → Bool) (xs ys : List A) (y : A) → first_that p xs ≡ some y → first_that p (xs ++ ys) ≡ some y
+first_append : {A : Type 0} (p : A → Bool) (xs ys : List A) (y : A) → first_that p xs ≡ Some y → first_that p (xs ++ ys) ≡ Some y
 unfolding first_that
 first_append {A} p [] ys y e = absurd (none_some e)
   where
-    none_some : ◌≡◌ {A = Option A} none (some y) → ⊥
-    none_some e = let z : ◌≡◌ {A = ℕ} 0 1 = ap (λ o. elim o [ none ↦ 0 | some y ↦ 1 ]) e in omega arith
+    none_some : ◌≡◌ {A = Option A} None (Some y) → ⊥
+    none_some e = let z : ◌≡◌ {A = ℕ} 0 1 = ap (λ o. elim o [ None ↦ 0 | Some y ↦ 1 ]) e in omega arith
 first_append p (x ∷ xs) ys y e = go (p x) (first_append p xs ys y) e
   where
-    go : (t : Bool) → (first_that p xs ≡ some y → first_that p (xs ++ ys) ≡ some y)
-        → elim t [ true ↦ some x | false ↦ first_that p xs ] ≡ some y → elim t [ true ↦ some x | false ↦ first_that p (xs ++ ys) ] ≡ some y
+    go : (t : Bool) → (first_that p xs ≡ Some y → first_that p (xs ++ ys) ≡ Some y)
+        → elim t [ true ↦ Some x | false ↦ first_that p xs ] ≡ Some y → elim t [ true ↦ Some x | false ↦ first_that p (xs ++ ys) ] ≡ Some y
     go true f e = e
     go false f e = f e
 
-second_append : {A : Type 0} (p : A → Bool) (xs ys : List A) → first_that p xs ≡ none → first_that p (xs ++ ys) ≡ first_that p ys
+second_append : {A : Type 0} (p : A → Bool) (xs ys : List A) → first_that p xs ≡ None → first_that p (xs ++ ys) ≡ first_that p ys
 unfolding first_that
 second_append p [] ys e = refl
 second_append {A} p (x ∷ xs) ys e = go (p x) (second_append p xs ys) e
   where
-    some_none : {y : A} → ◌≡◌ {A = Option A} (some y) none → ⊥
-    some_none e = let z : ◌≡◌ {A = ℕ} 1 0 = ap (λ o. elim o [ none ↦ 0 | some y ↦ 1 ]) e in omega arith
+    some_none : {y : A} → ◌≡◌ {A = Option A} (Some y) None → ⊥
+    some_none e = let z : ◌≡◌ {A = ℕ} 1 0 = ap (λ o. elim o [ None ↦ 0 | Some y ↦ 1 ]) e in omega arith
 
-    go : (t : Bool) → (first_that p xs ≡ none → first_that p (xs ++ ys) ≡ first_that p ys)
-        → ◌≡◌ {A = Option A} (elim t [ true ↦ some x | false ↦ first_that p xs ]) none
-        → elim t [ true ↦ some x | false ↦ first_that p (xs ++ ys) ] ≡ first_that p ys
+    go : (t : Bool) → (first_that p xs ≡ None → first_that p (xs ++ ys) ≡ first_that p ys)
+        → ◌≡◌ {A = Option A} (elim t [ true ↦ Some x | false ↦ first_that p xs ]) None
+        → elim t [ true ↦ Some x | false ↦ first_that p (xs ++ ys) ] ≡ first_that p ys
     go true f e = absurd (some_none e)
     go false f e = f e
 
-first_map : {A B : Type 0} (p : B → Bool) (f : A → B) (xs : List A) → first_that p (map f xs) ≡ Option.map f (first_that (λ x. p (f x)) xs)
+first_map : {A B : Type 0} (p : B → Bool) (f : A → B) (xs : List A) → first_that p (map f xs) ≡ option_map f (first_that (λ x. p (f x)) xs)
 unfolding first_that
 first_map p f [] = refl
 first_map p f (x ∷ xs) = go (p (f x)) (first_map p f xs)
   where
-    go : (t : Bool) → first_that p (map f xs) ≡ Option.map f (first_that (λ x. p (f x)) xs)
-        → elim t [ true ↦ some (f x) | false ↦ first_that p (map f xs) ] ≡ Option.map f (elim t [ true ↦ some x | false ↦ first_that (λ x. p (f x)) xs ])
+    go : (t : Bool) → first_that p (map f xs) ≡ option_map f (first_that (λ x. p (f x)) xs)
+        → elim t [ true ↦ Some (f x) | false ↦ first_that p (map f xs) ] ≡ option_map f (elim t [ true ↦ Some x | false ↦ first_that (λ x. p (f x)) xs ])
     go true e = refl
     go false e = e
 
@@ -197,17 +195,17 @@ first_map p f (x ∷ xs) = go (p (f x)) (first_map p f xs)
 module _ {A : Type 0} (R : A → A → Type 0) (P : ℕ → A → Type 0) (p : A → Bool) (f : ℕ → List A)
     (piece : (c : ℕ) → Found R (P c) p (first_that p (f c))) (apart : (c d : ℕ) (x y : A) → c < d → P c x → P d y → R y x → ⊥) where
   -- what was found stays,
-  stays : (n : ℕ) (x : A) → Found R (Among P n) p (some x) → Found R (Among P (suc n)) p (some x)
+  stays : (n : ℕ) (x : A) → Found R (Among P n) p (Some x) → Found R (Among P (suc n)) p (Some x)
   stays n x (found (c, h, q) t g) =
       found (c, omega arith, q) t
       (λ y (d, l, q') u r. ⊎_elim (λ e. apart c d x y (omega arith) q q' r) (λ b. g y (d, b, q') u r) (below_suc l))
 
   -- or it is found in piece n
-  added : (n : ℕ) (o : Option A) → Found R (Among P n) p none → Found R (P n) p o → Found R (Among P (suc n)) p o
-  added n (some x) (nothing g) (found q t h) =
+  added : (n : ℕ) (o : Option A) → Found R (Among P n) p None → Found R (P n) p o → Found R (Among P (suc n)) p o
+  added n (Some x) (nothing g) (found q t h) =
       found (n, omega arith, q) t
       (λ y (d, l, q') u r. ⊎_elim (λ e. h y (subst (λ (c : ℕ). P c y) e q') u r) (λ b. g y (d, b, q') u) (below_suc l))
-  added n none (nothing g) (nothing h) =
+  added n None (nothing g) (nothing h) =
       nothing (λ y (d, l, q') u. ⊎_elim (λ e. h y (subst (λ (c : ℕ). P c y) e q') u) (λ b. g y (d, b, q') u) (below_suc l))
 
   pub search_pieces : (n : ℕ) → Found R (Among P n) p (first_that p (collect f n))
@@ -216,8 +214,8 @@ module _ {A : Type 0} (R : A → A → Type 0) (P : ℕ → A → Type 0) (p : A
   search_pieces (suc n) = go (first_that p (collect f n)) refl (search_pieces n)
     where
       go : (o : Option A) → first_that p (collect f n) ≡ o → Found R (Among P n) p o → Found R (Among P (suc n)) p (first_that p (collect f n ++ f n))
-      go (some x) e F = subst (Found R (Among P (suc n)) p) (sym (first_append p (collect f n) (f n) x e)) (stays n x F)
-      go none e F = subst (Found R (Among P (suc n)) p) (sym (second_append p (collect f n) (f n) e)) (added n (first_that p (f n)) F (piece n))
+      go (Some x) e F = subst (Found R (Among P (suc n)) p) (sym (first_append p (collect f n) (f n) x e)) (stays n x F)
+      go None e F = subst (Found R (Among P (suc n)) p) (sym (second_append p (collect f n) (f n) e)) (added n (first_that p (f n)) F (piece n))
 
 -- the lists of k + 1 numbers below m that begin with c
 data Headed (m k c : ℕ) : List ℕ → Type 0 where
@@ -234,12 +232,12 @@ headed_below m k l = (λ (c, h, H). into c h H, out l)
     out (c ∷ l) B = let (h, D) = below_out B in (c, h, headed D)
 
 headed_found : (m k c : ℕ) (p : List ℕ → Bool) (o : Option (List ℕ)) → Found Before (ListBelow m k) (λ l. p (c ∷ l)) o
-    → Found Before (Headed m k c) p (Option.map (λ l. c ∷ l) o)
-headed_found m k c p (some l) (found B t f) = found (headed B) t (λ y H. first H)
+    → Found Before (Headed m k c) p (option_map (λ l. c ∷ l) o)
+headed_found m k c p (Some l) (found B t f) = found (headed B) t (λ y H. first H)
   where
     first : {y : List ℕ} → Headed m k c y → T (p y) → Before y (c ∷ l) → ⊥
     first (headed {l = l'} D) u b = ⊎_elim (λ h. omega arith) (λ q. f l' D u q.1) (before_cases b)
-headed_found m k c p none (nothing f) = nothing (λ y H. none_of H)
+headed_found m k c p None (nothing f) = nothing (λ y H. none_of H)
   where
     none_of : {y : List ℕ} → Headed m k c y → T (p y) → ⊥
     none_of (headed {l = l'} D) u = f l' D u
@@ -256,7 +254,7 @@ search_lists m zero p = go (p []) refl
     only [] B = refl
     only (c ∷ l) B = absurd (omega (arith, B.long))
 
-    go : (t : Bool) → p [] ≡ t → Found Before (ListBelow m zero) p (elim t [ true ↦ some [] | false ↦ none ])
+    go : (t : Bool) → p [] ≡ t → Found Before (ListBelow m zero) p (elim t [ true ↦ Some [] | false ↦ None ])
     go true e = found (record { long = refl; below = λ i h. absurd (not-suc-le-zero h) }) (true_is (p []) e) (λ y D t b. nil_first b refl)
     go false e = nothing (λ y D t. not_true (p []) e (subst (λ (l : List ℕ). T (p l)) (only y D) t))
 search_lists m (suc k) p =
@@ -293,5 +291,5 @@ search_sequences m n p =
 
 -- so the one that passes with none sooner is what is found
 pub sequence_found : (m n : ℕ) (p : List ℕ → Bool) (w : List ℕ) → Shorter m n w → T (p w) → ((v : List ℕ) → T (p v) → Sooner v w → ⊥)
-    → first_that p (shorter_lists m n) ≡ some w
+    → first_that p (shorter_lists m n) ≡ Some w
 sequence_found m n p w S t f = found_is (search_sequences m n p) (λ x y c d. sooner_ordered x y) w S t (λ v c. f v)

@@ -1,8 +1,7 @@
 -- What the entries of a reading tell by themselves (document 02, U5): where no label is 65,535, the first barred action. So two readings are equal just when
 -- they have the same entries in the same order.
-use Rattle.std.specs.Prelude.{ℕ, suc, ◌≡◌, refl, List, [], ◌∷◌}
+use Rattle.std.specs.Prelude.{ℕ, suc, ◌≡◌, refl, List, [], ◌∷◌, Option, Some, None, option_map}
 use Rattle.std.proofs.Common.{arith, sym, ap, ◌∙◌, ne_eqb}
-use Rattle.std.proofs.Math.Option.{Option, some, none, map}
 use Rattle.systems.specs.System.{System, after, entry, written, earliest, first_barred, reading}
 use Rattle.systems.proofs.Alike.{reading_eq}
 use Rattle.systems.specs.Entries.{Plain, first_skipped}
@@ -15,8 +14,8 @@ barred_told {X} s p (a ∷ w) x = go (s.step a x) (barred_told s p w (after x (s
   where
     go : (o : Option X) → first_barred s w (after x o) ≡ first_skipped (written s w (after x o))
         → earliest o (first_barred s w (after x o)) ≡ first_skipped (entry s o ∷ written s w (after x o))
-    go none r = refl
-    go (some y) r = let h = p y in rw (ne_eqb (s.label y) 65535 (λ e. omega arith), first_skipped) (ap (map suc) r)
+    go None r = refl
+    go (Some y) r = let h = p y in rw (ne_eqb (s.label y) 65535 (λ e. omega arith), first_skipped) (ap (option_map suc) r)
 
 -- Readings with the same entries are equal: the same action is the first barred one, or nothing is barred in both.
 pub entries_tell : {X Y : Type 0} (s : System X) (t : System Y) → Plain s → Plain t → (w : List ℕ) (x : X) (y : Y)

@@ -1,8 +1,7 @@
 -- The reading before U5 of document 02, which ended at its first barred action. It stands here for one theorem alone: which configurations are equivalent did
 -- not change, and so no class, no block and no chart did.
-use Rattle.std.specs.Prelude.{ℕ, suc, ◌≡◌, refl, ◌↔◌, List, [], ◌∷◌}
+use Rattle.std.specs.Prelude.{ℕ, suc, ◌≡◌, refl, ◌↔◌, List, [], ◌∷◌, Option, Some, None, option_map}
 use Rattle.std.proofs.Common.{sym, ap}
-use Rattle.std.proofs.Math.Option.{Option, some, none, map}
 use Rattle.systems.specs.System.{System, Alike}
 use Rattle.systems.specs.Alike.{Both, both_barred, both_open}
 use Rattle.systems.proofs.Alike.{map_suc_inj, map_suc_zero, alike_label, alike_next, bisimilar_alike}
@@ -22,16 +21,16 @@ unfolding ended
 ended_both f g h e both_barred = ended_eq (ap (λ (l : ℕ). l ∷ []) e) refl
 ended_both {l} {m} f g h e (both_open {x = x} {y = y} r) =
     let p = ap (λ (z : Ended). z.labels) (h x y r) in
-    ended_eq (cc) (ap (λ (z : Ended). map suc z.barred) (h x y r))
+    ended_eq (cc) (ap (λ (z : Ended). option_map suc z.barred) (h x y r))
 
 -- and come from related steps
 both_ended : {X Y : Type 0} (s : System X) (t : System Y) (l m : ℕ) (o : Option X) (u : Option Y)
     → ((w : List ℕ) → ended l o (former s w) ≡ ended m u (former t w)) → Both (FormerAlike s t) o u
 unfolding ended
-both_ended s t l m none none h = both_barred
-both_ended s t l m none (some y) h = absurd (map_suc_zero (former t [] y).barred (sym (ap (λ (z : Ended). z.barred) (h []))))
-both_ended s t l m (some x) none h = absurd (map_suc_zero (former s [] x).barred (ap (λ (z : Ended). z.barred) (h [])))
-both_ended s t l m (some x) (some y) h =
+both_ended s t l m None None h = both_barred
+both_ended s t l m None (Some y) h = absurd (map_suc_zero (former t [] y).barred (sym (ap (λ (z : Ended). z.barred) (h []))))
+both_ended s t l m (Some x) None h = absurd (map_suc_zero (former s [] x).barred (ap (λ (z : Ended). z.barred) (h [])))
+both_ended s t l m (Some x) (Some y) h =
     both_open (λ w.
     let p : l ∷ (former s w x).labels ≡ m ∷ (former t w y).labels = ap (λ (z : Ended). z.labels) (h w) in
     ended_eq (cc) (map_suc_inj (former s w x).barred (former t w y).barred (ap (λ (z : Ended). z.barred) (h w))))

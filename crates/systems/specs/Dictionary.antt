@@ -1,6 +1,5 @@
 -- Laws of dictionary order, alone and behind the length, and of the search through all lists in such an order.
-use Rattle.std.specs.Prelude.{◌≡◌, Bool, ◌⊎◌, List, T, length, get_or}
-use Rattle.std.proofs.Math.Option.{Option, none, some}
+use Rattle.std.specs.Prelude.{◌≡◌, Bool, ◌⊎◌, List, T, length, get_or, Option, None, Some}
 use Prim.Native.Nat.{ℕ, ◌<◌}
 use Rattle.systems.specs.System.{Below}
 use Rattle.systems.specs.Words.{Sooner}
@@ -16,8 +15,8 @@ pub record ListBelow (m k : ℕ) (l : List ℕ) : Type 0 where
 
 -- What a search among the elements with P has found: the first in the order R that passes, or nothing where none passes.
 pub data Found {A : Type 0} (R : A → A → Type 0) (P : A → Type 0) (p : A → Bool) : Option A → Type 0 where
-  found : {x : A} → P x → T (p x) → ((y : A) → P y → T (p y) → R y x → ⊥) → Found R P p (some x)
-  nothing : ((y : A) → P y → T (p y) → ⊥) → Found R P p none
+  found : {x : A} → P x → T (p x) → ((y : A) → P y → T (p y) → R y x → ⊥) → Found R P p (Some x)
+  nothing : ((y : A) → P y → T (p y) → ⊥) → Found R P p None
 
 -- an element of one of the first n pieces
 abbrev pub Among : {A : Type 0} → (ℕ → A → Type 0) → ℕ → A → Type 0

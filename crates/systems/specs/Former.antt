@@ -1,7 +1,6 @@
 -- The reading before U5 of document 02, which ended at its first barred action. It stands here for one theorem alone: which configurations are equivalent did
 -- not change, and so no class, no block and no chart did.
-use Rattle.std.specs.Prelude.{ℕ, suc, List, [], ◌∷◌}
-use Rattle.std.proofs.Math.Option.{Option, some, none, map}
+use Rattle.std.specs.Prelude.{ℕ, suc, List, [], ◌∷◌, Option, Some, None, option_map}
 use Rattle.systems.specs.System.{System}
 
 -- the labels up to the first barred action, and its index, or none
@@ -10,9 +9,9 @@ pub record Ended : Type 0 where
   pub barred : Option ℕ
 
 unfoldable pub ended : {X : Type 0} → ℕ → Option X → (X → Ended) → Ended
-ended l none rest = record { labels = l ∷ []; barred = some 0 }
-ended l (some y) rest = record { labels = l ∷ (rest y).labels; barred = map suc (rest y).barred }
+ended l None rest = record { labels = l ∷ []; barred = Some 0 }
+ended l (Some y) rest = record { labels = l ∷ (rest y).labels; barred = option_map suc (rest y).barred }
 
 unfoldable pub former : {X : Type 0} → System X → List ℕ → X → Ended
-former s [] x = record { labels = s.label x ∷ []; barred = none }
+former s [] x = record { labels = s.label x ∷ []; barred = None }
 former s (a ∷ w) x = ended (s.label x) (s.step a x) (former s w)

@@ -1,6 +1,5 @@
 -- Deterministic partial transition systems and what is read on them.
-use Rattle.std.specs.Prelude.{ℕ, suc, ◌<◌, ◌≡◌, Bool, true, false, ◌&&◌, List, [], ◌∷◌, eqb}
-use Rattle.std.proofs.Math.Option.{Option, some, none, map}
+use Rattle.std.specs.Prelude.{ℕ, suc, ◌<◌, ◌≡◌, Bool, true, false, ◌&&◌, List, [], ◌∷◌, eqb, Option, Some, None, option_map}
 
 -- A transition system (definition 2.1 of source 000, deterministic and partial as in source 002): the label of a configuration
 -- stands for its block of the initial partition; an action gives the next configuration, or none where it is barred.
@@ -10,13 +9,13 @@ pub record System (X : Type 0) : Type 0 where
 
 -- where an action leads: a barred one leaves the configuration as it is
 unfoldable pub after : {X : Type 0} → X → Option X → X
-after x none = x
-after x (some y) = y
+after x None = x
+after x (Some y) = y
 
 -- what an action writes: the label where it leads, or 65,535 in the label's place where it is barred
 unfoldable pub entry : {X : Type 0} → System X → Option X → ℕ
-entry s none = 65535
-entry s (some y) = s.label y
+entry s None = 65535
+entry s (Some y) = s.label y
 
 -- what the actions of a sequence write, one entry each
 unfoldable pub written : {X : Type 0} → System X → List ℕ → X → List ℕ
@@ -25,12 +24,12 @@ written s (a ∷ w) x = entry s (s.step a x) ∷ written s w (after x (s.step a 
 
 -- the index of the first barred action, counted from 0, by the first action and what comes later
 unfoldable pub earliest : {X : Type 0} → Option X → Option ℕ → Option ℕ
-earliest none later = some 0
-earliest (some y) later = map suc later
+earliest None later = Some 0
+earliest (Some y) later = option_map suc later
 
 -- the same of a sequence, or none where nothing is barred
 unfoldable pub first_barred : {X : Type 0} → System X → List ℕ → X → Option ℕ
-first_barred s [] x = none
+first_barred s [] x = None
 first_barred s (a ∷ w) x = earliest (s.step a x) (first_barred s w (after x (s.step a x)))
 
 -- A reading (document 01, as changed by U5 of document 02; an output sequence in the field): its entries in order, and the index of the first barred action,
@@ -48,10 +47,10 @@ same_numbers (x ∷ l) (y ∷ m) = eqb x y && same_numbers l m
 
 -- the same index, or none in both
 unfoldable pub same_index : Option ℕ → Option ℕ → Bool
-same_index none none = true
-same_index none (some j) = false
-same_index (some i) none = false
-same_index (some i) (some j) = eqb i j
+same_index None None = true
+same_index None (Some j) = false
+same_index (Some i) None = false
+same_index (Some i) (Some j) = eqb i j
 
 -- whether two readings are equal (document 01): the same entries in the same order, and the same first barred index, or none in both
 unfoldable pub same_reading : Reading → Reading → Bool
@@ -73,4 +72,4 @@ pub data Below (n : ℕ) : List ℕ → Type 0 where
 -- Reached (document 01): the start, and whatever an open action gives from a reached configuration.
 pub data Reached {X : Type 0} (s : System X) (start : X) : X → Type 0 where
   at_start : Reached s start start
-  by_step : {x y : X} → (a : ℕ) → Reached s start x → s.step a x ≡ some y → Reached s start y
+  by_step : {x y : X} → (a : ℕ) → Reached s start x → s.step a x ≡ Some y → Reached s start y

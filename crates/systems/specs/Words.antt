@@ -1,6 +1,5 @@
 -- Action sequences (words): where one leads, all of them by length and then in dictionary order, and the first that passes a test. Definitions only.
-use Rattle.std.specs.Prelude.{ℕ, zero, suc, ◌<◌, ◌≡◌, Bool, true, false, List, [], ◌∷◌, map, length}
-use Rattle.std.proofs.Math.Option.{Option, some, none}
+use Rattle.std.specs.Prelude.{ℕ, zero, suc, ◌<◌, ◌≡◌, Bool, true, false, List, [], ◌∷◌, map, length, Option, Some, None}
 use Rattle.systems.specs.Lists.{collect}
 use Rattle.systems.specs.System.{System, after}
 
@@ -20,8 +19,8 @@ shorter_lists m n = collect (lists_below m) n
 
 -- the first element of a list that passes a test
 unfoldable pub first_that : {A : Type 0} → (A → Bool) → List A → Option A
-first_that p [] = none
-first_that p (x ∷ xs) = elim (p x) [ true ↦ some x | false ↦ first_that p xs ]
+first_that p [] = None
+first_that p (x ∷ xs) = elim (p x) [ true ↦ Some x | false ↦ first_that p xs ]
 
 -- dictionary order (lexicographic): the lists agree up to some index, where the first has the lesser number
 pub data Before : List ℕ → List ℕ → Type 0 where

@@ -1,5 +1,5 @@
 -- A pass over the rows, and the loop of passes: what each gives.
-use Rattle.std.specs.Prelude.{◌≡◌, true, List, ℕ, ◌+◌, ◌≤◌, ◌<◌, set, ℤ}
+use Rattle.std.specs.Prelude.{◌≡◌, true, List, ℕ, ◌+◌, ◌≤◌, ◌<◌, set, ℤ, Option, Some}
 use Rattle.std.proofs.Common.{sym, ap, subst, ◌∙◌, inr, add-one, arith}
 use Rattle.std.proofs.Math.Decide.{ℕ_discrete, dec_le}
 use Rattle.model.specs.Blocks.{too_many}
@@ -19,7 +19,7 @@ use Rattle.table_rules.specs.Meaning.{Ready, row_in}
 use Rattle.depth_bound.specs.Depth.{exact_depth}
 use Rattle.depth_bound.specs.Widths.{depth_least, depth_enough}
 use Rattle.table_passes.specs.State.{State, Fell, actions_few, actions_decoded, counters_decoded, advance_quiet, state_fresh, state_swept, state_level}
-use Rattle.table_passes.specs.Steps.{DeepIn, potential_in, Changed, changed_none, changed_trans, BoundedTo, Turned, measure_in}
+use Rattle.table_passes.specs.Steps.{DeepIn, potential_in, Changed, changed_none, changed_trans, BoundedTo, OrTooMany, rows_are, Turn, measure_in}
 
 -- where action b leads from row j is known to depth k
 abbrev pub NearIn : List ℕ → Shape → List ℤ → List ℕ → ℕ → ℕ → ℕ → ℕ → Type 0
@@ -35,15 +35,18 @@ pub record Passing (s : List ℕ) (shape : Shape) (c : List ℤ) (h f : List ℕ
   pub fresh : (j : ℕ) → k ≤ j → j < n → j < fresh_in d' → DownBelow f' j shape.actions
   pub near : (e : ℕ) → DeepIn s shape c h n e → (j b : ℕ) → k ≤ j → j < n → b < shape.actions → NearIn s shape c' h' n e j b
 
--- What a pass gives: a state whose flags are down where the potential stays and, while no row is new, rows that are one deeper; or too many blocks.
-pub record Swept (s : List ℕ) (shape : Shape) (c : List ℤ) (h f : List ℕ) (n : ℕ) (c' : List ℤ) (h' t' f' d' : List ℕ) (r : ℕ) : Type 0 where
-  pub many : 255 < r → too_many (decode s) ≡ true
+-- What a pass gives: a state whose flags are down where the potential stays and, while no row is new, rows that are one deeper.
+pub record Sweep (s : List ℕ) (shape : Shape) (c : List ℤ) (h f : List ℕ) (n : ℕ) (c' : List ℤ) (h' t' f' d' : List ℕ) (r : ℕ) : Type 0 where
   pub more : n ≤ r
-  pub state : r ≤ 255 → State s shape c' h' t' f' d' r
-  pub fell : r ≤ 255 → Fell shape.counters c h f n c' h' f' r
-  pub changed : r ≤ 255 → Changed s shape c h n c' h' r
+  pub state : State s shape c' h' t' f' d' r
+  pub fell : Fell shape.counters c h f n c' h' f' r
+  pub changed : Changed s shape c h n c' h' r
   pub lowered : r ≡ n → potential_in shape c' h' n ≡ potential_in shape c h n → (j : ℕ) → j < n → DownBelow f' j shape.actions
   pub deeper : r ≡ n → (e : ℕ) → DeepIn s shape c h n e → DeepIn s shape c' h' n (e + 1)
+
+-- That, or too many blocks.
+abbrev pub Swept : List ℕ → Shape → List ℤ → List ℕ → List ℕ → ℕ → List ℤ → List ℕ → List ℕ → List ℕ → List ℕ → Option ℕ → Type 0
+Swept s shape c h f n c' h' t' f' d' = OrTooMany s (Sweep s shape c h f n c' h' t' f' d')
 
 -- the flags of the rows behind the last are down
 abbrev pub DownAbove : List ℕ → ℕ → ℕ → ℕ → Type 0
@@ -93,19 +96,19 @@ module _ {s : List ℕ} {shape : Shape} (R : Ready s shape) where
         near_at e E j b l q g (yes d) = subst (λ (v : ℕ). NearIn s shape c' h' n e v b) (sym d) (down_near {c = c} {h = h} P.state P.changed m hn z e E b g)
         near_at e E j b l q g (no d) = P.near e E j b (omega arith) q g
 
-    module _ {c'' : List ℤ} {h'' t'' f'' d'' : List ℕ} {r : ℕ} (T : Turned s shape c' h' f' d' n c'' h'' t'' f'' d'' m r) where
+    module _ {c'' : List ℤ} {h'' t'' f'' d'' : List ℕ} {r : ℕ} (T : Turn s shape c' h' f' d' n c'' h'' t'' f'' d'' m r) where
       -- it had its turn, and no row is new
       pub pass_turned : r ≤ n → Passing s shape c h f n c'' h'' t'' f'' d'' m
       pass_turned l =
           let few = P.state.working.few in
           let x = T.more in
           let d : r ≡ n = omega arith in
-          let C = subst (Changed s shape c' h' n c'' h'') d (T.changed (omega arith)) in
-          let F = subst (Fell shape.counters c' h' f' n c'' h'' f'') d (T.fell (omega arith)) in
+          let C = subst (Changed s shape c' h' n c'' h'') d T.changed in
+          let F = subst (Fell shape.counters c' h' f' n c'' h'' f'') d T.fell in
           let u = P.fell.falls in
           let v = F.falls in
           record {
-            state = subst (State s shape c'' h'' t'' f'' d'') d (T.state (omega arith));
+            state = subst (State s shape c'' h'' t'' f'' d'') d T.state;
             fell = falling_trans P.fell F;
             changed = changed_trans (omega arith) (omega arith) P.changed C;
             lowered = λ e j q w b g. down F d (omega arith) (omega arith) j q w b g (ℕ_discrete j m);
@@ -117,7 +120,7 @@ module _ {s : List ℕ} {shape : Shape} (R : Ready s shape) where
               → m ≤ j → j < n → (b : ℕ) → b < shape.actions → Dec (j ≡ m) → flag_in f'' j b ≡ 0
           down F d e e' j q w b g (yes z) =
               let few = P.state.working.few in
-              ap (λ (v : ℕ). flag_in f'' v b) z ∙ T.lowered (omega arith) (subst (λ (v : ℕ). potential_in shape c'' h'' v ≡ potential_in shape c' h' n) (sym d) e) b g
+              ap (λ (v : ℕ). flag_in f'' v b) z ∙ T.lowered (subst (λ (v : ℕ). potential_in shape c'' h'' v ≡ potential_in shape c' h' n) (sym d) e) b g
           down F d e e' j q w b g (no z) = let a = actions_few R in F.flags_down e j b w (omega arith) (P.lowered e' j (omega arith) w b g)
 
           fresh_at : BoundedTo shape f' d' n f'' d'' m shape.actions → (j : ℕ) → m ≤ j → j < n → j < fresh_in d'' → (b : ℕ) → b < shape.actions → Dec (j ≡ m) → flag_in f'' j b ≡ 0
@@ -133,34 +136,33 @@ module _ {s : List ℕ} {shape : Shape} (R : Ready s shape) where
               (C.shrunk.represents j w) (C.shrunk.inside j w) (P.near e E j b (omega arith) w g)
 
       -- or one is
-      pub swept_new : n < r → Swept s shape c h f n c'' h'' t'' f'' d'' r
+      pub swept_new : n < r → Swept s shape c h f n c'' h'' t'' f'' d'' (Some r)
       swept_new l =
-          record {
-            many = T.many;
+          rows_are
+          (record {
             more = omega arith;
             state = T.state;
-            fell = λ q. falling_trans P.fell (T.fell q);
-            changed = λ q. changed_trans (omega arith) (omega arith) P.changed (T.changed q);
+            fell = falling_trans P.fell T.fell;
+            changed = changed_trans (omega arith) (omega arith) P.changed T.changed;
             lowered = λ e. absurd (omega arith);
             deeper = λ e. absurd (omega arith);
-          }
+          })
 
   -- all rows with a flag up are passed
-  pub swept : {c c' : List ℤ} {h f h' t' f' d' : List ℕ} {n k : ℕ} → Passing s shape c h f n c' h' t' f' d' k → k ≤ first_in d' → Swept s shape c h f n c' h' t' f' (set d' 510 (fresh_in d')) n
+  pub swept : {c c' : List ℤ} {h f h' t' f' d' : List ℕ} {n k : ℕ} → Passing s shape c h f n c' h' t' f' d' k → k ≤ first_in d' → Swept s shape c h f n c' h' t' f' (set d' 510 (fresh_in d')) (Some n)
   swept {c} {c'} {h} {h' = h'} {f' = f'} {d' = d'} {n = n} {k = p} P le =
-      let few = P.state.working.few in
-      record {
-        many = λ q. absurd (omega arith);
+      rows_are
+      (record {
         more = omega arith;
-        state = λ q. state_swept R P.state (fresh_in d') (λ j l v. quiet j l v (dec_le p j));
-        fell = λ q. P.fell;
-        changed = λ q. P.changed;
+        state = state_swept R P.state (fresh_in d') (λ j l v. quiet j l v (dec_le p j));
+        fell = P.fell;
+        changed = P.changed;
         lowered = λ q z j l. lower z j l (dec_le p j);
         deeper = λ q k D i l.
             rw (add-one k)
             (near_deep (sheet_frame (decode s)) (sheet_framed (decode s) R.well) {row = row_in shape.counters c' h'} i (P.state.working.sound.rows i l)
             (λ a g. near_at k D i a l (omega (arith, actions_decoded R)) (dec_le p i)));
-      }
+      })
     where
       quiet : (j : ℕ) → j < n → j < fresh_in d' → Dec (p ≤ j) → DownBelow f' j shape.actions
       quiet j l v (yes q) = P.fresh j q l v
@@ -191,25 +193,26 @@ module _ {s : List ℕ} {shape : Shape} (R : Ready s shape) where
 
   module _ {c : List ℤ} {h t f d : List ℕ} {n m depth before : ℕ} (Q : Sweeping s shape c h t f d n m depth before) where
     -- a flag is up, and all rows were deep enough before the last pass
-    pub sweeping_exact : {k : ℕ} → LastRaised f shape.actions n k → k < n → exact_depth shape.counters n m ≤ before → too_many (decode s) ≡ true
-    sweeping_exact {k} L l e = Q.ground e k l (L.found l)
+    pub sweeping_exact : {o : Option ℕ} {k : ℕ} → LastRaised f shape.actions n o → o ≡ Some k → exact_depth shape.counters n m ≤ before → too_many (decode s) ≡ true
+    sweeping_exact {k = k} L l e = Q.ground e k (L.few k l) (L.found k l)
 
     -- what is known of all rows is true
     pub sweeping_sure : {e : ℕ} → SureDepth d n depth e → DeepIn s shape c h n e
     sweeping_sure sure_known = Q.deep
     sweeping_sure (sure_each A) = λ i l. deep_le (sheet_frame (decode s)) {row = row_in shape.counters c h} i (A i l) (Q.state.working.deep i l)
 
-    module _ {c' : List ℤ} {h' t' f' d' : List ℕ} {r e : ℕ} (D : DeepIn s shape c h n e) (W : Swept s shape c h f n c' h' t' f' d' r) (few : r ≤ 255) where
+    module _ {c' : List ℤ} {h' t' f' d' : List ℕ} {r e : ℕ} (D : DeepIn s shape c h n e) (W : Sweep s shape c h f n c' h' t' f' d' r) where
       -- a new row where all were 255 deep
       pub sweeping_many : n < r → 254 < e → too_many (decode s) ≡ true
-      sweeping_many l b = (W.changed few).grown l (λ i w. deep_le (sheet_frame (decode s)) {row = row_in shape.counters c h} i b (D i w))
+      sweeping_many l b = W.changed.grown l (λ i w. deep_le (sheet_frame (decode s)) {row = row_in shape.counters c h} i b (D i w))
 
       -- a smaller measure
-      pub sweeping_less : {k : ℕ} → LastRaised f shape.actions n k → k < n → measure_in shape c' h' f' r < measure_in shape c h f n
+      pub sweeping_less : {o : Option ℕ} {k : ℕ} → LastRaised f shape.actions n o → o ≡ Some k → measure_in shape c' h' f' r < measure_in shape c h f n
       unfolding measure_in
-      sweeping_less {k} L l =
-          let (b, g, u) = L.found l in
-          let F = W.fell few in
+      sweeping_less {k = k} L e =
+          let l = L.few k e in
+          let (b, g, u) = L.found k e in
+          let F = W.fell in
           measure_pass (potential_in shape c h n) (potential_in shape c' h' r) (flag_in f) (flag_in f') shape.actions n r k b l g u F.falls
           (λ z j a q w.
           let x = F.rows_stay z in
@@ -222,19 +225,19 @@ module _ {s : List ℕ} {shape : Shape} (R : Ready s shape) where
           let z = depth_enough shape.counters n m in
           let v : depth_bound (decode s).counters n m ≤ e = subst (λ (w : ℕ). depth_bound w n m ≤ e) (counters_decoded R) (omega arith) in
           working_fell (decode s) R.well m e G Q.state.working D (omega arith) v
-          (subst (λ (w : ℕ). State s shape c' h' t' f' d' w) x (W.state few)).working (W.changed few).shrunk
+          (subst (λ (w : ℕ). State s shape c' h' t' f' d' w) x W.state).working W.changed.shrunk
           (λ o. let w = W.lowered x o k q b g in omega arith)
 
       -- on to the next pass
       pub sweeping_on : Doublings (decode s) m → (n < r → e ≤ 254) → {d'' : List ℕ} {depth' : ℕ} → DepthAfter d' d'' n r e depth' → Sweeping s shape c' h' t' f' d'' r m depth' e
       sweeping_on G o {d''} (anew l L) =
-          let S = W.state few in
+          let S = W.state in
           let b = o l in
           let y = depth_least shape.counters r m in
           record {
             state =
                 state_level R S d'' n e (omega arith)
-                (λ j w. deep_kept (sheet_frame (decode s)) {row = row_in shape.counters c h} {row' = row_in shape.counters c' h'} j W.more w (W.changed few).shrunk.represents ((W.changed few).shrunk.inside j w) (D j w)) L;
+                (λ j w. deep_kept (sheet_frame (decode s)) {row = row_in shape.counters c h} {row' = row_in shape.counters c' h'} j W.more w W.changed.shrunk.represents (W.changed.shrunk.inside j w) (D j w)) L;
             deep = zero_deep S;
             ground = λ q. absurd (omega arith);
           }
@@ -242,7 +245,7 @@ module _ {s : List ℕ} {shape : Shape} (R : Ready s shape) where
           let y = W.more in
           let x : r ≡ n = omega arith in
           record {
-            state = subst (λ (v : List ℕ). State s shape c' h' t' f' v r) (sym q) (W.state few);
+            state = subst (λ (v : List ℕ). State s shape c' h' t' f' v r) (sym q) W.state;
             deep =
                 subst (λ (v : ℕ). DeepIn s shape c' h' v r') (sym x)
                 (λ i w. deep_le (sheet_frame (decode s)) {row = row_in shape.counters c' h'} i u (W.deeper x e D i w));

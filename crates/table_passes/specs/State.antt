@@ -1,5 +1,5 @@
 -- The state of the refinement in arrays, and what each step of the code does to it.
-use Rattle.std.specs.Prelude.{◌≡◌, Bool, List, ℕ, suc, ◌+◌, ◌*◌, ◌≤◌, ◌<◌, length, get_or, set, ℤ}
+use Rattle.std.specs.Prelude.{◌≡◌, Bool, List, ℕ, suc, ◌+◌, ◌*◌, ◌≤◌, ◌<◌, length, get_or, set, ℤ, Option, None, Some}
 use Rattle.std.proofs.Math.Path.{refl, sym, ap, subst}
 use Rattle.std.proofs.Common.{◌∙◌, inl, inr, ⊎_elim, add-one, eq-eqb, get_or-set_same, get_or-set_other}
 use Rattle.std.proofs.Math.Bool.{true, false}
@@ -25,12 +25,10 @@ use Rattle.sheet_bytes.specs.declared.Shape.{Shape}
 use Rattle.sheet_bytes.specs.declared.Ranges.{Ranges}
 use Rattle.sheet_bytes.specs.declared.Values.{Values}
 use Rattle.sheet_bytes.specs.declared.Config.{Config}
-use Rattle.sheet_bytes.specs.declared.Move as Kind
-use Rattle.sheet_bytes.specs.declared.Move.TheVariants.{Barred, Open}
 use Rattle.sheet_bytes.specs.declared.RegionMove.{RegionMove}
 use Rattle.sheet_rules.specs.Layout.{move_part}
 use Rattle.sheet_rules.specs.Decode.{decode, rule_at}
-use Rattle.sheet_bytes.specs.Three.{ranges_meant, values_meant, rules_meant, box_meant, config_meant, move_meant, move_of_kind, move_three, box_three, start_three, start_meant, firsts_padded, zero_rule}
+use Rattle.sheet_bytes.specs.Three.{ranges_meant, values_meant, rules_meant, box_meant, config_meant, move_meant, open_read, box_three, start_three, start_meant, firsts_padded, zero_rule}
 use Rattle.sheet_bytes.specs.Space.{ValuesWithin, land_three, land_meant}
 use Rattle.sheet_bytes.specs.Cuts.{cuts_three}
 use Rattle.sheet_bytes.specs.Bounds.{RangesWithin, RulesFit, rules_fit}
@@ -121,26 +119,25 @@ module _ {s : List ℕ} {shape : Shape} (R : Ready s shape) where
         ((in_box_parts (box_meant shape.counters (box_in c h k)) (config_meant shape.counters (config_in c h k))).0 (row_holds k l)).1 (S.values_padded k l)
 
     -- the move that was read
-    read_meant : {m : RegionMove} (k b : ℕ) → k < n → b < shape.actions → m ≡ move_in shape.counters s (region_in h k) b
+    read_meant : {m : Option RegionMove} (k b : ℕ) → k < n → b < shape.actions → m ≡ move_in shape.counters s (region_in h k) b
         → move_at (decode s) b (config_meant shape.counters (config_in c h k)) ≡ move_meant shape.counters m
     read_meant {m} k b l q e =
         sym (move_in_lem R b (config_meant shape.counters (config_in c h k)) (row_covered k l) q)
         ∙ ap (λ (r : ℕ). move_meant shape.counters (move_in shape.counters s r b)) (sym (S.located k l)) ∙ ap (move_meant shape.counters) (sym e)
 
-    pub barred_at : {m : RegionMove} (k b : ℕ) → k < n → b < shape.actions → m ≡ move_in shape.counters s (region_in h k) b → m.kind ≡ Barred
+    pub barred_at : {m : Option RegionMove} (k b : ℕ) → k < n → b < shape.actions → m ≡ move_in shape.counters s (region_in h k) b → m ≡ None
         → move_at (decode s) b (config_meant shape.counters (config_in c h k)) ≡ Model.Barred
-    unfolding move_of_kind
-    barred_at {m} k b l q e d =
-        read_meant k b l q e ∙ ap (λ (j : Kind.Move). move_of_kind j m.target (rules_meant shape.counters m.rules)) d
+    unfolding move_meant
+    barred_at k b l q e d = read_meant k b l q e ∙ ap (move_meant shape.counters) d
 
-    pub open_at : {m : RegionMove} (k b : ℕ) → k < n → b < shape.actions → m ≡ move_in shape.counters s (region_in h k) b → m.kind ≡ Open
+    pub open_at : {o : Option RegionMove} {m : RegionMove} (k b : ℕ) → k < n → b < shape.actions → o ≡ move_in shape.counters s (region_in h k) b → o ≡ Some m
         → OpenAt s shape c h k b m
-    unfolding move_of_kind move_in move_three
-    open_at {m} k b l q e d =
+    unfolding move_meant move_in
+    open_at {m = m} k b l q g d =
         let V# = shape.counters in
         let p = move_part s (region_in h k) b in
-        let meant =
-        read_meant k b l q e ∙ ap (λ (j : Kind.Move). move_of_kind j m.target (rules_meant V# m.rules)) d in
+        let meant = read_meant k b l q g ∙ ap (move_meant V#) d in
+        let e = open_read V# p (sym g ∙ d) in
         let fits = (open_fits_at (decode s) R.well b (config_meant V# (config_in c h k)) (row_covered k l) meant).1 in
         let each = subst (λ (v : ℕ). Each (RuleFits v) (rules_meant V# m.rules)) (sym counters_decoded) fits in
         let listed-fit =

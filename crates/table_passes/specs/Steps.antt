@@ -1,5 +1,5 @@
 -- What a step for one action, a turn of a row and the whole refinement give.
-use Rattle.std.specs.Prelude.{◌≡◌, refl, true, false, List, ℕ, ◌+◌, ◌*◌, ◌≤◌, ◌<◌, T, length, set, ℤ}
+use Rattle.std.specs.Prelude.{◌≡◌, refl, true, false, List, ℕ, ◌+◌, ◌*◌, ◌≤◌, ◌<◌, T, length, set, ℤ, Option, None, Some}
 use Rattle.std.proofs.Common.{sym, ap, subst, ◌∙◌, inr, add-one, arith}
 use Rattle.std.proofs.Math.Decide.{dec_le, ℕ_discrete}
 use Rattle.model.specs.Sheet.{in_box, region_number, Covered}
@@ -12,7 +12,6 @@ use Rattle.refinement.proofs.Potential.{falling_refl, falling_less, falling_tran
 use Rattle.refinement.specs.Loop.{Advance, rows_potential}
 use Rattle.sheet_bytes.specs.declared.Shape.{Shape}
 use Rattle.sheet_bytes.specs.declared.Config.{Config}
-use Rattle.sheet_bytes.specs.declared.Move.TheVariants.{Barred}
 use Rattle.sheet_bytes.specs.declared.RegionMove.{RegionMove}
 use Rattle.sheet_rules.specs.Decode.{decode}
 use Rattle.sheet_bytes.specs.Three.{config_meant, start_three}
@@ -25,8 +24,6 @@ use Rattle.table_rules.specs.Sources.{Begun}
 use Rattle.table_rules.specs.Meaning.{Ready, row_in, holds_in, NoneHolds, move_in}
 use Rattle.table_rules.specs.Growth.{new_cells, new_homes, RowFor, row_there, row_new, row_none, RowsWith}
 use Rattle.table_rules.specs.Cutting.{Cuttable, Settled}
-use Rattle.table_passes.specs.declared.Refined.{Refined}
-use Rattle.table_passes.specs.declared.Refined.TheVariants.{TooMany, Done}
 use Rattle.table_passes.specs.State.{State, Fell, OpenAt, actions_few, ranges_bounded, values_bounded, landing_covered, barred_at, stored_there, stored_elsewhere, lowered_there, lowered_falling, state_barred, advance_stopped, advance_quiet, new_other, state_append, open_new, landed_new, state_many, state_deep, state_deeper, state_done, state_first, start_covered}
 use Rattle.table_passes.specs.Settling.{Bounded, lowered_bounded, state_settled, advance_settled}
 
@@ -81,25 +78,27 @@ pub record Going (s : List ℕ) (shape : Shape) (c : List ℤ) (h t f d : List �
   pub bounded : r ≡ n → Bounded shape f d n f' d' i a
   pub lowered : potential_in shape c' h' r ≡ potential_in shape c h n → flag_in f' i a ≡ 0
 
--- Such a state, or more than 255 rows: then the sheet has too many blocks.
-pub record Outcome (s : List ℕ) (shape : Shape) (c : List ℤ) (h t f d : List ℕ) (n : ℕ) (c' : List ℤ) (h' t' f' d' : List ℕ) (i a r : ℕ) : Type 0 where
-  pub many : 255 < r → too_many (decode s) ≡ true
-  pub going : r ≤ 255 → Going s shape c h t f d n c' h' t' f' d' i a r
+-- A number of rows of which P holds; or none, where they would be more than 255: then the sheet has too many blocks.
+pub record OrTooMany (s : List ℕ) (P : ℕ → Type 0) (r : Option ℕ) : Type 0 where
+  pub many : r ≡ None → too_many (decode s) ≡ true
+  pub rows : (q : ℕ) → r ≡ Some q → P q
 
-module _ {s : List ℕ} {shape : Shape} {c c' : List ℤ} {h t f d h' t' f' d' : List ℕ} {n i a r : ℕ} where
-  pub going_on : Going s shape c h t f d n c' h' t' f' d' i a r → Outcome s shape c h t f d n c' h' t' f' d' i a r
-  going_on G = record { many = λ l. let b = G.state.working.few in absurd (omega arith); going = λ l. G }
+pub rows_are : {s : List ℕ} {P : ℕ → Type 0} {q : ℕ} → P q → OrTooMany s P (Some q)
+rows_are {P = P} {q = q} p = record { many = λ e. cc; rows = λ k e. let z : q ≡ k = cc in subst P z p }
 
-  pub too_many_lem : 255 < r → too_many (decode s) ≡ true → Outcome s shape c h t f d n c' h' t' f' d' i a r
-  too_many_lem l e = record { many = λ k. e; going = λ k. absurd (omega arith) }
+pub too_many_lem : {s : List ℕ} {P : ℕ → Type 0} → too_many (decode s) ≡ true → OrTooMany s P None
+too_many_lem e = record { many = λ k. e; rows = λ q k. cc }
+
+abbrev pub Outcome : List ℕ → Shape → List ℤ → List ℕ → List ℕ → List ℕ → List ℕ → ℕ → List ℤ → List ℕ → List ℕ → List ℕ → List ℕ → ℕ → ℕ → Option ℕ → Type 0
+Outcome s shape c h t f d n c' h' t' f' d' i a = OrTooMany s (Going s shape c h t f d n c' h' t' f' d' i a)
 
 -- an action of row i while no row is new
 advanced : {s : List ℕ} {shape : Shape} {c c' : List ℤ} {h t f d t' f' d' : List ℕ} {n i a k : ℕ} → State s shape c' h t' f' d' n
     → ((k : ℕ) → k < 255 → depth_in d' k ≡ depth_in d k) → Bounded shape f d n f' d' i a → Fell shape.counters c h f n c' h f' n
     → (potential_in shape c' h n ≡ potential_in shape c h n → flag_in f' i a ≡ 0) → Advance (decode s) n (row_in shape.counters c h) (row_in shape.counters c' h) i a k
-    → target_in t' i a ≡ k → ((b : ℕ) → b < shape.actions → (b ≡ a → ⊥) → target_in t' i b ≡ target_in t i b) → Outcome s shape c h t f d n c' h t' f' d' i a n
+    → target_in t' i a ≡ k → ((b : ℕ) → b < shape.actions → (b ≡ a → ⊥) → target_in t' i b ≡ target_in t i b) → Outcome s shape c h t f d n c' h t' f' d' i a (Some n)
 advanced {s} {shape} {c} {c'} {h} {d = d} {n = n} {i = i} {a = a} S y B p q A z w =
-    going_on
+    rows_are
     (record {
       more = omega arith;
       state = S;
@@ -114,14 +113,14 @@ advanced {s} {shape} {c} {c'} {h} {d = d} {n = n} {i = i} {a = a} S y B p q A z 
 
 -- the flag of the action is down: nothing is done
 pub quiet_step : {s : List ℕ} {shape : Shape} (R : Ready s shape) {c : List ℤ} {h t f d : List ℕ} {n : ℕ} (i a : ℕ) → State s shape c h t f d n → i < n → a < shape.actions
-    → flag_in f i a ≡ 0 → Outcome s shape c h t f d n c h t f d i a n
+    → flag_in f i a ≡ 0 → Outcome s shape c h t f d n c h t f d i a (Some n)
 quiet_step {s} {shape} R {c} {h} {t} {f} {d} {n} i a S hi ha e =
     advanced S (λ k l. refl) (record { less = omega arith; kept = λ k b l w q z. z; own = λ q. e }) (falling_refl (potential_in shape c h n) (flag_in f) n) (λ q. e) (advance_quiet R S i a hi ha e) refl (λ b w q. refl)
 
 -- the step of a barred action
 pub barred_step : {s : List ℕ} {shape : Shape} (R : Ready s shape) {c : List ℤ} {h t f d : List ℕ} {n : ℕ} (i a : ℕ) (S : State s shape c h t f d n) → i < n → a < shape.actions
-    → {m : RegionMove} → m ≡ move_in shape.counters s (region_in h i) a → m.kind ≡ Barred
-    → Outcome s shape c h t f d n c h (set t (255 * a + i) 255) (set f (255 * a + i) 0) d i a n
+    → {m : Option RegionMove} → m ≡ move_in shape.counters s (region_in h i) a → m ≡ None
+    → Outcome s shape c h t f d n c h (set t (255 * a + i) 255) (set f (255 * a + i) 0) d i a (Some n)
 barred_step {s} {shape} R {c} {h} {t} {f} {d} {n} i a S hi ha {m} e q =
     let few = S.working.few in
     let g = actions_few R in
@@ -151,7 +150,7 @@ pub record Placed (s : List ℕ) (shape : Shape) (c : List ℤ) (h t f d : List 
   pub own_below : i < r
   pub cuttable : Cuttable shape.counters m.rules (ranges_in c' j)
   pub settled : (c'' : List ℤ) (t'' f'' d'' : List ℕ) → t'' ≡ set t (255 * a + i) j → length d'' ≡ length d'
-      → Settled m.rules shape.actions c' t'' (set f' (255 * a + i) 0) d' r i j c'' f'' d'' → Outcome s shape c h t f d n c'' h' t'' f'' d'' i a r
+      → Settled m.rules shape.actions c' t'' (set f' (255 * a + i) 0) d' r i j c'' f'' d'' → Outcome s shape c h t f d n c'' h' t'' f'' d'' i a (Some r)
 
 module _ {s : List ℕ} {shape : Shape} (R : Ready s shape) {c c₁ : List ℤ} {h t f d h₁ f₁ d₁ : List ℕ} {n : ℕ} {m : RegionMove} (i a : ℕ) (hi : i < n) (ha : a < shape.actions)
     (A : Appended s shape c h t f d n i a m c₁ h₁ f₁ d₁) where
@@ -164,14 +163,14 @@ module _ {s : List ℕ} {shape : Shape} (R : Ready s shape) {c c₁ : List ℤ} 
       }
 
   led_new : (c' : List ℤ) (t' f' d' : List ℕ) → t' ≡ set t (255 * a + i) n → length d' ≡ length d₁
-      → Settled m.rules shape.actions c₁ t' (set f₁ (255 * a + i) 0) d₁ (n + 1) i n c' f' d' → Outcome s shape c h t f d n c' h₁ t' f' d' i a (n + 1)
+      → Settled m.rules shape.actions c₁ t' (set f₁ (255 * a + i) 0) d₁ (n + 1) i n c' f' d' → Outcome s shape c h t f d n c' h₁ t' f' d' i a (Some (n + 1))
   led_new c' t' f' d' et ld E =
       let few = A.state.working.few in
       let Q = state_settled R A.state i a (omega arith) ha A.opens n (omega arith) A.lands c' t' f' d' et ld E in
       let N = advance_settled R A.state i a (omega arith) ha A.opens n (omega arith) A.lands c' t' f' d' E in
       let l = A.less in
       let p = Q.fell.falls in
-      going_on
+      rows_are
       (record {
         more = omega arith;
         state = Q.state;
@@ -249,18 +248,25 @@ module _ {s : List ℕ} {shape : Shape} (R : Ready s shape) {c : List ℤ} {h t 
           }
 
   -- the row for the landing, among r rows
-  pub placed : {c' : List ℤ} {h' f' d' : List ℕ} {j r : ℕ} → RowFor shape.counters s c h f d n x c' h' f' d' j → (j ≡ 255 → ⊥) → length f' ≡ length f → length d' ≡ length d → RowsWith n j r
-      → Placed s shape c h t f d n i a m c' h' f' d' j r
-  placed (row_there j l u) q lf ld W = subst (Placed s shape c h t f d n i a m c h f d j) (sym (W.old l)) (placed_there j l u)
-  placed {c'} {h'} {f'} {d'} (row_new l N ec eh U B) q lf ld W =
-      subst (Placed s shape c h t f d n i a m c' h' f' d' n) (sym (W.one_more (omega arith))) (placed_new R i a hi ha (appended c' h' f' d' N l ec eh lf U ld B))
-  placed (row_none e N) q lf ld W = absurd (q refl)
+  pub placed : {c' : List ℤ} {h' f' d' : List ℕ} {o : Option ℕ} {j r : ℕ} → RowFor shape.counters s c h f d n x c' h' f' d' o → o ≡ Some j → length f' ≡ length f → length d' ≡ length d
+      → RowsWith n j r → Placed s shape c h t f d n i a m c' h' f' d' j r
+  placed {j = j} {r = r} (row_there k l u) q lf ld W =
+      let z : k ≡ j = cc in
+      let w : n ≡ r = sym (W.old (omega arith)) in
+      subst (λ (v : ℕ). Placed s shape c h t f d n i a m c h f d v r) z (subst (Placed s shape c h t f d n i a m c h f d k) w (placed_there k l u))
+  placed {c'} {h'} {f'} {d'} {j = j} {r = r} (row_new l N ec eh U B) q lf ld W =
+      let z : n ≡ j = cc in
+      let w : n + 1 ≡ r = omega (arith, W.one_more (omega arith)) in
+      subst (λ (v : ℕ). Placed s shape c h t f d n i a m c' h' f' d' v r) z
+      (subst (Placed s shape c h t f d n i a m c' h' f' d' n) w (placed_new R i a hi ha (appended c' h' f' d' N l ec eh lf U ld B)))
+  placed (row_none e N) q lf ld W = cc
 
   -- there is none
-  pub led_many : {c' c'' : List ℤ} {h' f' d' h'' t'' f'' d'' : List ℕ} {j : ℕ} → RowFor shape.counters s c h f d n x c' h' f' d' j → j ≡ 255 → Outcome s shape c h t f d n c'' h'' t'' f'' d'' i a 256
-  led_many (row_there j l u) e = let few = S.working.few in absurd (omega arith)
-  led_many (row_new l N ec eh U B) e = absurd (omega arith)
-  led_many (row_none q N) e = too_many_lem (omega arith) (state_many R S i a hi O (landing_in_none N) q)
+  pub led_many : {c' c'' : List ℤ} {h' f' d' h'' t'' f'' d'' : List ℕ} {o : Option ℕ} → RowFor shape.counters s c h f d n x c' h' f' d' o → o ≡ None
+      → Outcome s shape c h t f d n c'' h'' t'' f'' d'' i a None
+  led_many (row_there j l u) e = cc
+  led_many (row_new l N ec eh U B) e = cc
+  led_many (row_none q N) e = too_many_lem (state_many R S i a hi O (landing_in_none N) q)
 
 -- What the actions of row i below a do to the flags.
 pub record BoundedTo (shape : Shape) (f d : List ℕ) (n : ℕ) (f' d' : List ℕ) (i a : ℕ) : Type 0 where
@@ -307,9 +313,8 @@ turning_begin {shape = shape} {c = c} {h = h} {f = f} {n = n} S =
     }
 
 pub turning_on : {s : List ℕ} {shape : Shape} {c c' c'' : List ℤ} {h t f d h' t' f' d' h'' t'' f'' d'' : List ℕ} {n i a r q : ℕ} → i < n → a < shape.actions → shape.actions ≤ 8
-    → Turning s shape c h t f d n c' h' t' f' d' i a r → Outcome s shape c' h' t' f' d' r c'' h'' t'' f'' d'' i a q → q ≤ 255 → Turning s shape c h t f d n c'' h'' t'' f'' d'' i (a + 1) q
-turning_on {s} {shape} {c} {c'} {c''} {h} {t} {f} {d} {h'} {t'} {f'} {d'} {h''} {t''} {f''} {d''} {n} {i} {a} {r} {q} hi ha few T O l =
-    let G = O.going l in
+    → Turning s shape c h t f d n c' h' t' f' d' i a r → Going s shape c' h' t' f' d' r c'' h'' t'' f'' d'' i a q → Turning s shape c h t f d n c'' h'' t'' f'' d'' i (a + 1) q
+turning_on {s} {shape} {c} {c'} {c''} {h} {t} {f} {d} {h'} {t'} {f'} {d'} {h''} {t''} {f''} {d''} {n} {i} {a} {r} {q} hi ha few T G =
     let x = T.more in
     let y = G.more in
     let u = T.fell.falls in
@@ -342,59 +347,61 @@ turning_on {s} {shape} {c} {c'} {c''} {h} {t} {f} {d} {h'} {t'} {f'} {d'} {h''} 
 
 -- the same while no row is new
 pub turning_same : {s : List ℕ} {shape : Shape} {c c' c'' : List ℤ} {h t f d h' t' f' d' h'' t'' f'' d'' : List ℕ} {n i a q : ℕ} → i < n → a < shape.actions → shape.actions ≤ 8
-    → Turning s shape c h t f d n c' h' t' f' d' i a n → Outcome s shape c' h' t' f' d' n c'' h'' t'' f'' d'' i a q → n ≤ 255 → q ≤ n → Turning s shape c h t f d n c'' h'' t'' f'' d'' i (a + 1) n
-turning_same {s} {shape} {c} {c'' = c''} {h = h} {t = t} {f = f} {d = d} {h'' = h''} {t'' = t''} {f'' = f''} {d'' = d''} {n = n} {i = i} {a = a} hi ha few T O b l =
-    let x = (O.going (omega arith)).more in
-    subst (Turning s shape c h t f d n c'' h'' t'' f'' d'' i (a + 1)) (omega arith) (turning_on hi ha few T O (omega arith))
+    → Turning s shape c h t f d n c' h' t' f' d' i a n → Going s shape c' h' t' f' d' n c'' h'' t'' f'' d'' i a q → q ≤ n → Turning s shape c h t f d n c'' h'' t'' f'' d'' i (a + 1) n
+turning_same {s} {shape} {c} {c'' = c''} {h = h} {t = t} {f = f} {d = d} {h'' = h''} {t'' = t''} {f'' = f''} {d'' = d''} {n = n} {i = i} {a = a} hi ha few T G l =
+    let x = G.more in
+    subst (Turning s shape c h t f d n c'' h'' t'' f'' d'' i (a + 1)) (omega arith) (turning_on hi ha few T G)
 
--- What a turn of row i gives: a state in which its flags are down where the potential stays, and, while no row is new, what it reaches; or too many blocks.
-pub record Turned (s : List ℕ) (shape : Shape) (c : List ℤ) (h f d : List ℕ) (n : ℕ) (c' : List ℤ) (h' t' f' d' : List ℕ) (i r : ℕ) : Type 0 where
-  pub many : 255 < r → too_many (decode s) ≡ true
+-- What a turn of row i gives: a state in which its flags are down where the potential stays, and, while no row is new, what it reaches.
+pub record Turn (s : List ℕ) (shape : Shape) (c : List ℤ) (h f d : List ℕ) (n : ℕ) (c' : List ℤ) (h' t' f' d' : List ℕ) (i r : ℕ) : Type 0 where
   pub more : n ≤ r
-  pub state : r ≤ 255 → State s shape c' h' t' f' d' r
-  pub fell : r ≤ 255 → Fell shape.counters c h f n c' h' f' r
-  pub changed : r ≤ 255 → Changed s shape c h n c' h' r
-  pub lowered : r ≤ 255 → potential_in shape c' h' r ≡ potential_in shape c h n → DownBelow f' i shape.actions
+  pub state : State s shape c' h' t' f' d' r
+  pub fell : Fell shape.counters c h f n c' h' f' r
+  pub changed : Changed s shape c h n c' h' r
+  pub lowered : potential_in shape c' h' r ≡ potential_in shape c h n → DownBelow f' i shape.actions
   pub bounded : r ≡ n → BoundedTo shape f d n f' d' i shape.actions
   pub near : r ≡ n → (k : ℕ) → DeepIn s shape c h n k → (b : ℕ) → b < shape.actions
       → Near (sheet_frame (decode s)) n (row_in shape.counters c' h') k (row_in shape.counters c' h' i) b
 
--- A row is new, or there are too many.
+-- That, or too many blocks.
+abbrev pub Turned : List ℕ → Shape → List ℤ → List ℕ → List ℕ → List ℕ → ℕ → List ℤ → List ℕ → List ℕ → List ℕ → List ℕ → ℕ → Option ℕ → Type 0
+Turned s shape c h f d n c' h' t' f' d' i = OrTooMany s (Turn s shape c h f d n c' h' t' f' d' i)
+
+-- A row is new.
 pub turned_new : {s : List ℕ} {shape : Shape} {c c' c'' : List ℤ} {h t f d h' t' f' d' h'' t'' f'' d'' : List ℕ} {n i a q : ℕ} → Turning s shape c h t f d n c' h' t' f' d' i a n
-    → Outcome s shape c' h' t' f' d' n c'' h'' t'' f'' d'' i a q → n < q → Turned s shape c h f d n c'' h'' t'' f'' d'' i q
-turned_new T O l =
-    record {
-      many = O.many;
+    → Going s shape c' h' t' f' d' n c'' h'' t'' f'' d'' i a q → n < q → Turned s shape c h f d n c'' h'' t'' f'' d'' i (Some q)
+turned_new T G l =
+    rows_are
+    (record {
       more = omega arith;
-      state = λ k. (O.going k).state;
-      fell = λ k. falling_trans T.fell (O.going k).fell;
-      changed = λ k. changed_trans (omega arith) (O.going k).more T.changed (O.going k).changed;
-      lowered = λ k g. let u = T.fell.falls in let w = (O.going k).fell.falls in let x = (O.going k).fell.rows_stay (omega arith) in absurd (omega arith);
+      state = G.state;
+      fell = falling_trans T.fell G.fell;
+      changed = changed_trans (omega arith) G.more T.changed G.changed;
+      lowered = λ g. let u = T.fell.falls in let w = G.fell.falls in let x = G.fell.rows_stay (omega arith) in absurd (omega arith);
       bounded = λ e. absurd (omega arith);
       near = λ e. absurd (omega arith);
-    }
+    })
 
 module _ {s : List ℕ} {shape : Shape} (R : Ready s shape) {c c' : List ℤ} {h t f d h' t' f' d' : List ℕ} {n i a r : ℕ} (T : Turning s shape c h t f d n c' h' t' f' d' i a r)
     (e : a ≡ shape.actions) where
-  turned_with : (d'' : List ℕ) → fresh_in d'' ≡ fresh_in d' → State s shape c' h' t' f' d'' r → Turned s shape c h f d n c' h' t' f' d'' i r
+  turned_with : (d'' : List ℕ) → fresh_in d'' ≡ fresh_in d' → State s shape c' h' t' f' d'' r → Turned s shape c h f d n c' h' t' f' d'' i (Some r)
   turned_with d'' v S =
-      let few = S.working.few in
-      record {
-        many = λ k. absurd (omega arith);
+      rows_are
+      (record {
         more = T.more;
-        state = λ k. S;
-        fell = λ k. T.fell;
-        changed = λ k. T.changed;
-        lowered = λ k g b w. T.lowered g b (omega arith);
+        state = S;
+        fell = T.fell;
+        changed = T.changed;
+        lowered = λ g b w. T.lowered g b (omega arith);
         bounded = λ g.
             let B = T.bounded g in
             let x = B.less in
             record { less = omega arith; kept = λ k b l w q. B.kept k b l w (omega arith); own = λ q b w. B.own (omega arith) b (omega arith) };
         near = λ g k D b w. (T.reaches g (λ j. k) D b (omega arith)).near k (inr (omega arith));
-      }
+      })
 
   -- all its actions are done, and it may be said to be deeper
-  pub turned : (d'' : List ℕ) → State s shape c h t f d n → i < n → r ≡ n → length d'' ≡ length d' → Deepened t' d' d'' shape.actions i → Turned s shape c h f d n c' h' t' f' d'' i r
+  pub turned : (d'' : List ℕ) → State s shape c h t f d n → i < n → r ≡ n → length d'' ≡ length d' → Deepened t' d' d'' shape.actions i → Turned s shape c h f d n c' h' t' f' d'' i (Some r)
   turned d'' S hi g l D =
       let few = S.working.few in
       turned_with d'' (D.others 511 (λ e. omega arith))
@@ -408,20 +415,21 @@ module _ {s : List ℕ} {shape : Shape} (R : Ready s shape) {c c' : List ℤ} {h
 unfoldable pub measure_in : Shape → List ℤ → List ℕ → List ℕ → ℕ → ℕ
 measure_in shape c h f n = measure (potential_in shape c h n) (flag_in f) shape.actions n
 
--- What the refinement of n rows gives: no flag up, or too many blocks.
-pub record Stable (s : List ℕ) (shape : Shape) (c : List ℤ) (h t f d : List ℕ) (r : ℕ) : Type 0 where
-  pub many : 255 < r → too_many (decode s) ≡ true
-  pub state : r ≤ 255 → State s shape c h t f d r
-  pub quiet : r ≤ 255 → (k : ℕ) → k < r → DownBelow f k shape.actions
+-- A state of r rows with no flag up.
+pub record Quiet (s : List ℕ) (shape : Shape) (c : List ℤ) (h t f d : List ℕ) (r : ℕ) : Type 0 where
+  pub state : State s shape c h t f d r
+  pub quiet : (k : ℕ) → k < r → DownBelow f k shape.actions
 
-pub stable_many : {s : List ℕ} {shape : Shape} {c : List ℤ} {h t f d : List ℕ} {r : ℕ} → 255 < r → too_many (decode s) ≡ true → Stable s shape c h t f d r
-stable_many l e = record { many = λ k. e; state = λ k. absurd (omega arith); quiet = λ k. absurd (omega arith) }
+-- What the refinement gives: that, or too many blocks.
+abbrev pub Stable : List ℕ → Shape → List ℤ → List ℕ → List ℕ → List ℕ → List ℕ → Option ℕ → Type 0
+Stable s shape c h t f d = OrTooMany s (Quiet s shape c h t f d)
 
-pub stable_now : {s : List ℕ} {shape : Shape} {c : List ℤ} {h t f d : List ℕ} {n k : ℕ} → State s shape c h t f d n → LastRaised f shape.actions n k → n ≤ k → Stable s shape c h t f d n
-stable_now S L l =
-    let b = L.few in
-    let d = S.working.few in
-    record { many = λ q. absurd (omega arith); state = λ q. S; quiet = λ q. L.none (omega arith) }
+pub stable_many : {s : List ℕ} {shape : Shape} {c : List ℤ} {h t f d : List ℕ} → too_many (decode s) ≡ true → Stable s shape c h t f d None
+stable_many e = too_many_lem e
+
+pub stable_now : {s : List ℕ} {shape : Shape} {c : List ℤ} {h t f d : List ℕ} {n : ℕ} {k : Option ℕ} → State s shape c h t f d n → LastRaised f shape.actions n k → k ≡ None
+    → Stable s shape c h t f d (Some n)
+stable_now S L e = rows_are (record { state = S; quiet = L.none e })
 
 -- The table of a completed refinement: completed, each row with the number of its region, and all bounds within 1,000,000 of zero.
 pub record Table (s : List ℕ) (shape : Shape) (c : List ℤ) (h t : List ℕ) (n : ℕ) : Type 0 where
@@ -430,17 +438,17 @@ pub record Table (s : List ℕ) (shape : Shape) (c : List ℤ) (h t : List ℕ) 
   pub bounded : (k : ℕ) → k < n → RangesWithin 1000000 (ranges_in c k)
 
 -- What the refinement answers.
-pub data Answered (s : List ℕ) (shape : Shape) (c : List ℤ) (h t : List ℕ) : Refined → Type 0 where
-  refused : too_many (decode s) ≡ true → Answered s shape c h t TooMany
-  done : {n : ℕ} → Table s shape c h t n → Answered s shape c h t (Done n)
+abbrev pub Answered : List ℕ → Shape → List ℤ → List ℕ → List ℕ → Option ℕ → Type 0
+Answered s shape c h t = OrTooMany s (Table s shape c h t)
 
-pub answer_many : {s : List ℕ} {shape : Shape} {c : List ℤ} {h t f d : List ℕ} {r : ℕ} → Stable s shape c h t f d r → 255 < r → Answered s shape c h t TooMany
-answer_many S l = refused (S.many l)
-
-pub answer_done : {s : List ℕ} {shape : Shape} (R : Ready s shape) {c : List ℤ} {h t f d : List ℕ} {r : ℕ} → Stable s shape c h t f d r → r ≤ 255 → Answered s shape c h t (Done r)
-answer_done R S l =
-    let Q = S.state l in
-    done (record { completed = state_done R Q (S.quiet l); located = Q.located; bounded = λ k b. ranges_bounded R Q k b })
+pub answer_done : {s : List ℕ} {shape : Shape} (R : Ready s shape) {c : List ℤ} {h t f d : List ℕ} {r : Option ℕ} → Stable s shape c h t f d r → Answered s shape c h t r
+answer_done R S =
+    record {
+      many = S.many;
+      rows = λ q e.
+          let Q = S.rows q e in
+          record { completed = state_done R Q.state Q.quiet; located = Q.state.located; bounded = λ k b. ranges_bounded R Q.state k b };
+    }
 
 -- the first state, as the code makes it
 pub started_covered : {s : List ℕ} {shape : Shape} (R : Ready s shape) (x : Config) → x ≡ start_three s → Covered (decode s) (config_meant shape.counters x)

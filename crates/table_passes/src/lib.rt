@@ -4,10 +4,3 @@
 
 pub mod steps;
 pub mod sweep;
-
-// What the refinement answers: there are more than 255 blocks, or the table is done with so many rows.
-#[derive(Clone, Copy)]
-pub enum Refined {
-    TooMany,
-    Done(usize),
-}

@@ -1,28 +1,21 @@
 // How deep rows are: no sequence of at most so many actions tells the members of a row apart.
 ghost use Rattle.std.specs.Prelude.{◌<◌, ◌≤◌};
-ghost use Rattle.table_rules.specs.Arrays.{TargetsRoom, BoundsRoom};
+ghost use Rattle.table_rules.specs.Arrays.{BoundsRoom};
 ghost use Rattle.table_rules.specs.Depths.{Within, DeepBelow, Deepened, AtLeast, Levelled, SureDepth, DepthAfter};
 
 // The lesser of a depth and that of a row; the depth itself where there is no row (255).
-pub fn shallower(bounds: &[usize], t: usize, low: usize) -> usize
-    requires bounds_room { BoundsRoom bounds.now }
+pub fn shallower(bounds: &[usize; 512], t: usize, low: usize) -> usize
     requires t_bound { t ≤ 255 }
     ensures { (result ≤ low) × Within bounds.now t result }
 {
     if t == 255 {
         return low;
     }
-    let d = bounds[t];
-    if d < low {
-        return d;
-    }
-    low
+    low.min(bounds[t])
 }
 
 // The least depth of the rows that the actions of row i lead to; 65,534 where all are barred or deeper.
-pub fn reached_depth(targets: &[u8], bounds: &[usize], actions: usize, i: usize) -> usize
-    requires targets_room { TargetsRoom targets.now }
-    requires bounds_room { BoundsRoom bounds.now }
+pub fn reached_depth(targets: &[u8; 2040], bounds: &[usize; 512], actions: usize, i: usize) -> usize
     requires actions_bound { (actions ≤ 8) × (i < 255) }
     ensures { (result ≤ 65534) × DeepBelow targets.now bounds.now i result actions }
 {
@@ -36,11 +29,10 @@ pub fn reached_depth(targets: &[u8], bounds: &[usize], actions: usize, i: usize)
 
 // Row i is one deeper than what all its actions lead to. That is asked once depths are kept by row (that of the first is not 0): a row that came late and
 // leads to deep rows is deep after its first turn, where the depth by passes would begin anew.
-pub fn deepen(targets: &[u8], bounds: &mut [usize], actions: usize, i: usize)
-    requires targets_room { TargetsRoom targets.now }
-    requires bounds_room { BoundsRoom bounds.old }
+pub fn deepen(targets: &[u8; 2040], bounds: &mut [usize; 512], actions: usize, i: usize)
     requires actions_bound { (actions ≤ 8) × (i < 255) }
-    ensures { Deepened targets.now bounds.old bounds.new actions i }
+    ensures deepened { Deepened targets.now bounds.old bounds.new actions i }
+    ensures bounds_room { BoundsRoom bounds.new }
 {
     if bounds[0] == 0 {
         return;
@@ -52,54 +44,41 @@ pub fn deepen(targets: &[u8], bounds: &mut [usize], actions: usize, i: usize)
 }
 
 // A depth that all rows below n have.
-pub fn common_depth(bounds: &[usize], n: usize) -> usize
-    requires bounds_room { BoundsRoom bounds.now }
+pub fn common_depth(bounds: &[usize; 512], n: usize) -> usize
     requires n_bound { n ≤ 255 }
     ensures { AtLeast bounds.now n result }
 {
     let mut low = 65535;
     for k in 0..n {
-        low = shallower(bounds, k, low);
+        low = low.min(bounds[k]);
     }
     low
 }
 
 // Every row below n is at least so deep.
-pub fn level(bounds: &mut [usize], n: usize, depth: usize)
-    requires bounds_room { BoundsRoom bounds.old }
+pub fn level(bounds: &mut [usize; 512], n: usize, depth: usize)
     requires n_bound { n ≤ 255 }
     ensures { Levelled bounds.old bounds.new n depth }
 {
     for k in 0..n {
-        let old = bounds[k];
-        let new = if old < depth { depth } else { old };
-        bounds[k] = new;
+        bounds[k] = bounds[k].max(depth);
     }
 }
 
 // What is known of all rows: the depth by passes, or the least of their own, once these are kept. They are looked at in the pass
 // after the first of a new row, and in every sixteenth from there on.
-pub fn sure_depth(bounds: &[usize], n: usize, depth: usize) -> usize
-    requires bounds_room { BoundsRoom bounds.now }
+pub fn sure_depth(bounds: &[usize; 512], n: usize, depth: usize) -> usize
     requires n_bound { n ≤ 255 }
     ensures { SureDepth bounds.now n depth result }
 {
-    if bounds[0] == 0 {
+    if bounds[0] == 0 || depth % 16 != 1 {
         return depth;
     }
-    if depth % 16 != 1 {
-        return depth;
-    }
-    let own = common_depth(bounds, n);
-    if own > depth {
-        return own;
-    }
-    depth
+    common_depth(bounds, n).max(depth)
 }
 
 // How deep all rows are after a pass before which n rows were so deep. Where a row came late the others keep their depth from then on, each its own.
-pub fn depth_after(bounds: &mut [usize], n: usize, rows: usize, before: usize) -> usize
-    requires bounds_room { BoundsRoom bounds.old }
+pub fn depth_after(bounds: &mut [usize; 512], n: usize, rows: usize, before: usize) -> usize
     requires n_bound { n ≤ 255 }
     ensures { DepthAfter bounds.old bounds.new n rows before result }
 {

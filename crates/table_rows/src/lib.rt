@@ -8,3 +8,4 @@ pub mod marks;
 pub mod rows;
 pub mod search;
 pub mod sources;
+pub mod table;

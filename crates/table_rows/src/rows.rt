@@ -1,13 +1,13 @@
 // Reading and storing what the arrays have of a row.
-ghost use Rattle.std.specs.Prelude.{◌≡◌, ◌+◌, ◌<◌, ◌≤◌, length};
-ghost use Rattle.table_rules.specs.Arrays.{CellsRoom, HomesRoom, range_in, ranges_in, config_in, box_in, put_range, put_ranges, put_values, put_home};
+ghost use Rattle.std.specs.Prelude.{◌≡◌, ◌+◌, ◌<◌, ◌≤◌};
+ghost use Rattle.table_rules.specs.Arrays.{range_in, ranges_in, config_in, box_in, put_range, put_ranges, put_values, put_home};
 
 use integers::Range;
 use sheet_bytes::{Config, Ranges, RegionBox, Values};
 
 // The range of which the low bound stands at a place.
-pub fn range_in(cells: &[i64], at: usize) -> Range
-    requires { at + 2 ≤ length cells.now }
+pub fn range_in(cells: &[i64; 2295], at: usize) -> Range
+    requires { at + 2 ≤ 2295 }
     ensures { result ≡ range_in cells.now at }
 {
     Range {
@@ -17,8 +17,7 @@ pub fn range_in(cells: &[i64], at: usize) -> Range
 }
 
 // The ranges of row k.
-pub fn ranges_in(cells: &[i64], k: usize) -> Ranges
-    requires cells_room { CellsRoom cells.now }
+pub fn ranges_in(cells: &[i64; 2295], k: usize) -> Ranges
     requires k_bound { k < 255 }
     ensures { result ≡ ranges_in cells.now k }
 {
@@ -31,23 +30,18 @@ pub fn ranges_in(cells: &[i64], k: usize) -> Ranges
 }
 
 // The box of row k.
-pub fn box_in(cells: &[i64], homes: &[u8], k: usize) -> RegionBox
-    requires cells_room { CellsRoom cells.now }
-    requires homes_room { HomesRoom homes.now }
+pub fn box_in(cells: &[i64; 2295], homes: &[u8; 510], k: usize) -> RegionBox
     requires k_bound { k < 255 }
     ensures { result ≡ box_in cells.now homes.now k }
 {
-    let ranges = ranges_in(cells, k);
     RegionBox {
         state: homes[2 * k + 1],
-        ranges,
+        ranges: ranges_in(cells, k),
     }
 }
 
 // The representative of row k.
-pub fn config_in(cells: &[i64], homes: &[u8], k: usize) -> Config
-    requires cells_room { CellsRoom cells.now }
-    requires homes_room { HomesRoom homes.now }
+pub fn config_in(cells: &[i64; 2295], homes: &[u8; 510], k: usize) -> Config
     requires k_bound { k < 255 }
     ensures { result ≡ config_in cells.now homes.now k }
 {
@@ -63,19 +57,16 @@ pub fn config_in(cells: &[i64], homes: &[u8], k: usize) -> Config
     }
 }
 
-pub fn put_range(cells: &mut [i64], at: usize, r: Range)
-    requires { at + 2 ≤ length cells.old }
+pub fn put_range(cells: &mut [i64; 2295], at: usize, r: Range)
+    requires { at + 2 ≤ 2295 }
     ensures { cells.new ≡ put_range cells.old at r }
 {
-    let low = r.low;
-    let high = r.high;
-    cells[at] = low;
-    cells[at + 1] = high;
+    cells[at] = r.low;
+    cells[at + 1] = r.high;
 }
 
 // Stores the ranges of row k.
-pub fn put_ranges(cells: &mut [i64], k: usize, r: Ranges)
-    requires cells_room { CellsRoom cells.old }
+pub fn put_ranges(cells: &mut [i64; 2295], k: usize, r: Ranges)
     requires k_bound { k < 255 }
     ensures { cells.new ≡ put_ranges cells.old k r }
 {
@@ -86,23 +77,18 @@ pub fn put_ranges(cells: &mut [i64], k: usize, r: Ranges)
 }
 
 // Stores the representative's values of row k.
-pub fn put_values(cells: &mut [i64], k: usize, x: Values)
-    requires cells_room { CellsRoom cells.old }
+pub fn put_values(cells: &mut [i64; 2295], k: usize, x: Values)
     requires k_bound { k < 255 }
     ensures { cells.new ≡ put_values cells.old k x }
 {
     let at = 9 * k;
-    let first = x.first;
-    let second = x.second;
-    let third = x.third;
-    cells[at] = first;
-    cells[at + 1] = second;
-    cells[at + 2] = third;
+    cells[at] = x.first;
+    cells[at + 1] = x.second;
+    cells[at + 2] = x.third;
 }
 
 // Stores the number of row k's region, and its state.
-pub fn put_home(homes: &mut [u8], k: usize, region: u8, state: u8)
-    requires homes_room { HomesRoom homes.old }
+pub fn put_home(homes: &mut [u8; 510], k: usize, region: u8, state: u8)
     requires k_bound { k < 255 }
     ensures { homes.new ≡ put_home homes.old k region state }
 {

@@ -1,8 +1,8 @@
 -- What the code tells of a cut of a row, and of storing it.
-use Rattle.std.specs.Prelude.{◌≡◌, refl, Bool, true, false, List, ℕ, ◌+◌, ◌<◌, ℤ}
-use Rattle.std.proofs.Common.{sym, ap, subst, ◌∙◌, arith, SFits, of_z, to_z}
-use Rattle.std.specs.Int.{w64}
-use Rattle.std.proofs.lemmas.Int.{to_z-of_z}
+use Rattle.std.specs.Prelude.{◌≡◌, refl, Bool, true, false, ◌&&◌, List, ℕ, ◌+◌, ◌<◌, ℤ}
+use Rattle.std.proofs.Common.{sym, ap, subst, ◌∙◌, arith}
+use Rattle.std.specs.Ordering.{int_eq}
+use Rattle.std.proofs.lemmas.Bool.Decides.{Decides-int_eq, not_from_Decides}
 use Rattle.integers.specs.declared.Range.{Range}
 use Rattle.sheet_bytes.specs.declared.Ranges.{Ranges}
 use Rattle.sheet_bytes.specs.declared.Rules.{Rules}
@@ -43,6 +43,31 @@ third_tells a b P e Q f S =
       no = λ g q. S.no g (ap (λ (k : Ranges). k.third) q);
     }
 
+-- what `==` tells of numbers, ranges, and three ranges
+int_told : (x y : ℤ) → Same x y (int_eq x y)
+int_told x y = record { yes = (Decides-int_eq x y).0; no = not_from_Decides (int_eq x y) (Decides-int_eq x y) }
+
+abbrev pub range_eq : Range → Range → Bool
+range_eq a b = int_eq a.low b.low && int_eq a.high b.high
+
+range_told : (a b : Range) → Same a b (range_eq a b)
+range_told a b = go (int_eq a.low b.low) (int_eq a.high b.high) (int_told a.low b.low) (int_told a.high b.high)
+  where
+    go : (p q : Bool) → Same a.low b.low p → Same a.high b.high q → Same a b (p && q)
+    go true true P Q = range_same_yes a b (P.yes refl) (Q.yes refl)
+    go true false P Q = range_high_no a b (Q.no refl)
+    go false q P Q = range_low_no a b (P.no refl)
+
+pub ranges_told : (a b : Ranges) {r : Bool} → r ≡ (range_eq a.first b.first && (range_eq a.second b.second && range_eq a.third b.third)) → Same a b r
+ranges_told a b e =
+    subst (Same a b) (sym e)
+    (go (range_eq a.first b.first) (range_eq a.second b.second) (range_eq a.third b.third) (range_told a.first b.first) (range_told a.second b.second) (range_told a.third b.third))
+  where
+    go : (p q r : Bool) → Same a.first b.first p → Same a.second b.second q → Same a.third b.third r → Same a b (p && (q && r))
+    go true true r P Q R = third_tells a b P refl Q refl R
+    go true false r P Q R = second_no a b Q refl
+    go false q r P Q R = first_no a b P refl
+
 -- the only counter's rule is all there is to do
 pub cut_by_only : {V# : ℕ} {rules : Rules} {wanted : Ranges} (b r : Ranges) → Cuttable V# rules wanted → V# ≡ 1 → r ≡ cut_three rules.first wanted.first b → r ≡ cuts_three rules wanted b
 cut_by_only {rules = rules} {wanted = wanted} b r K e d =
@@ -73,7 +98,3 @@ pub settled_raised : {rules : Rules} {actions : ℕ} {c c' : List ℤ} {t f f' d
 settled_raised {actions = actions} {t = t} {f = f} {f' = f'} {n = n} {i = i} hi hj ne ec L e A B U =
     let (O, q) = opening hi hj L e A B in
     settled_cut ne ec O (subst (λ (k : ℕ). RaisedTo t i k n f f' actions) (sym q) U)
-
--- signed numbers of the same bits are the same
-pub bits_same : (x y : ℤ) → SFits w64 x → SFits w64 y → of_z w64 x ≡ of_z w64 y → x ≡ y
-bits_same x y p q e = sym (to_z-of_z w64 x p) ∙ ap (to_z w64) e ∙ to_z-of_z w64 y q

@@ -1,9 +1,9 @@
 -- Depths of rows: what the functions that read and raise them give.
-use Rattle.std.specs.Prelude.{◌≡◌, refl, ◌⊎◌, List, ℕ, ◌+◌, ◌≤◌, ◌<◌, length, set}
+use Rattle.std.specs.Prelude.{◌≡◌, refl, ◌⊎◌, List, ℕ, ◌+◌, ◌≤◌, ◌<◌, length, set, max}
 use Rattle.std.proofs.Common.{sym, ap, subst, ◌∙◌, inl, inr, ⊎_elim, arith, length-set, get_or-set_same, get_or-set_other}
-use Rattle.std.proofs.Math.Decide.{ℕ_discrete}
+use Rattle.std.proofs.Math.Decide.{ℕ_discrete, dec_le}
 use Rattle.table_rules.specs.Arrays.{BoundsRoom, target_in, depth_in}
-use Rattle.table_rules.specs.Depths.{Within, DeepBelow, Deepened, AtLeast, Levelled}
+use Rattle.table_rules.specs.Depths.{Within, DeepBelow, Deepened, AtLeast, Levelled, SureDepth, sure_known, sure_each}
 
 -- one action more
 pub below_more : (t d : List ℕ) (i k a m : ℕ) → DeepBelow t d i k a → m ≤ k → Within d (target_in t i a) m → DeepBelow t d i m (a + 1)
@@ -31,6 +31,13 @@ least_more d k n m c A l u j h = go (ℕ_discrete j n)
     go : Dec (j ≡ n) → m ≤ depth_in d j
     go (yes q) = let e = ap (depth_in d) q in ⊎_elim (λ z. absurd (omega arith)) (λ v. omega arith) u
     go (no q) = let v = A j (omega arith) in omega arith
+
+pub least_max : {d : List ℕ} {n depth own r : ℕ} → AtLeast d n own → r ≡ max own depth → SureDepth d n depth r
+least_max {d} {n} {depth} {own} {r} A e = go (dec_le own depth)
+  where
+    go : Dec (own ≤ depth) → SureDepth d n depth r
+    go (yes l) = let z : depth ≡ r = omega arith in subst (SureDepth d n depth) z sure_known
+    go (no l) = sure_each (λ j h. let a = A j h in omega arith)
 
 pub levelled_none : (d : List ℕ) (n depth : ℕ) → Levelled d d n depth
 levelled_none d n depth = record { same_length = refl; each = λ j. inl refl }

@@ -1,5 +1,5 @@
 -- The row for a configuration: one that has it, or a new one.
-use Rattle.std.specs.Prelude.{◌≡◌, refl, List, ℕ, ◌≤◌, ◌<◌, ℤ}
+use Rattle.std.specs.Prelude.{◌≡◌, List, ℕ, ◌≤◌, ◌<◌, ℤ, Option, None, Some}
 use Rattle.std.proofs.Common.{ap, ◌∙◌, arith}
 use Rattle.model.specs.Sheet.{region_number}
 use Rattle.sheet_bytes.specs.declared.RegionBox.{RegionBox}
@@ -26,11 +26,11 @@ pub room_left : {n : ℕ} → n ≤ 255 → (n ≡ 255 → ⊥) → n < 255
 room_left l q = omega arith
 
 -- a search that found none
-pub nobody : {V# : ℕ} {c : List ℤ} {h : List ℕ} {x : Config} {n r : ℕ} → Found V# c h x n r → n ≤ r → NoneHolds V# c h x n
-nobody F l = let b = F.few in F.none (omega arith)
+pub nobody : {V# : ℕ} {c : List ℤ} {h : List ℕ} {x : Config} {n : ℕ} {r : Option ℕ} → Found V# c h x n r → r ≡ None → NoneHolds V# c h x n
+nobody F e = F.none e
 
 -- the row that was found or made is one of 255
-pub row_few : {V# : ℕ} {s : List ℕ} {c c' : List ℤ} {h f d h' f' d' : List ℕ} {n j : ℕ} {x : Config} → n ≤ 255 → RowFor V# s c h f d n x c' h' f' d' j → (j ≡ 255 → ⊥) → j < 255
-row_few few (row_there j l u) q = omega arith
-row_few few (row_new l N ec eh U B) q = l
-row_few few (row_none e N) q = absurd (q refl)
+pub row_few : {V# : ℕ} {s : List ℕ} {c c' : List ℤ} {h f d h' f' d' : List ℕ} {n j : ℕ} {r : Option ℕ} {x : Config} → n ≤ 255 → RowFor V# s c h f d n x c' h' f' d' r → r ≡ Some j → j < 255
+row_few {j = j} few (row_there k l u) q = let z : k ≡ j = cc in omega arith
+row_few {n = n} {j = j} few (row_new l N ec eh U B) q = let z : n ≡ j = cc in omega arith
+row_few few (row_none e N) q = cc

@@ -1,5 +1,5 @@
 -- What the arrays stand for: the rows of a table of the model.
-use Rattle.std.specs.Prelude.{◌≡◌, Bool, true, false, List, ℕ, ◌+◌, ◌-◌, ◌≤◌, ◌<◌, length, take, drop, ℤ}
+use Rattle.std.specs.Prelude.{◌≡◌, Bool, true, false, List, ℕ, ◌+◌, ◌-◌, ◌≤◌, ◌<◌, length, take, drop, ℤ, Option, None, Some}
 use Rattle.std.proofs.Math.Path.{sym, ap}
 use Rattle.std.proofs.Common.{◌∙◌, arith}
 use Rattle.std.proofs.Math.Decide.{ℕ_discrete}
@@ -26,11 +26,16 @@ none_holds_more V# c h x n N e k l = go (ℕ_discrete k n)
     go (yes q) = ap (holds_in V# c h x) q ∙ e
     go (no q) = N k (omega arith)
 
-pub found_here : {V# : ℕ} {c : List ℤ} {h : List ℕ} {x : Config} (n r : ℕ) → r < n → holds_in V# c h x r ≡ true → Found V# c h x n r
-found_here n r h e = record { few = omega arith; inside = λ l. e; none = λ q. absurd (omega arith) }
+pub found_here : {V# : ℕ} {c : List ℤ} {h : List ℕ} {x : Config} (n r : ℕ) → r < n → holds_in V# c h x r ≡ true → Found V# c h x n (Some r)
+found_here {V#} {c} {h} {x} n r l e =
+    record {
+      few = λ k q. let z : r ≡ k = cc in omega arith;
+      inside = λ k q. let z : k ≡ r = cc in ap (holds_in V# c h x) z ∙ e;
+      none = λ q. cc;
+    }
 
-pub found_none : {V# : ℕ} {c : List ℤ} {h : List ℕ} {x : Config} (n k : ℕ) → n ≤ k → NoneHolds V# c h x k → Found V# c h x n n
-found_none n k l N = record { few = omega arith; inside = λ h. absurd (omega arith); none = λ e j h. N j (omega arith) }
+pub found_none : {V# : ℕ} {c : List ℤ} {h : List ℕ} {x : Config} (n k : ℕ) → n ≤ k → NoneHolds V# c h x k → Found V# c h x n None
+found_none n k l N = record { few = λ k q. cc; inside = λ k q. cc; none = λ e j h. N j (omega arith) }
 
 module _ {s : List ℕ} {shape : Shape} (R : Ready s shape) where
   -- the region of a covered configuration, as the bytes list it
@@ -66,6 +71,6 @@ pub holds_read : (V# : ℕ) (c : List ℤ) (h : List ℕ) (x : Config) (k : ℕ)
     → r ≡ in_box (box_meant V# b) (config_meant V# x) → r ≡ holds_in V# c h x k
 holds_read V# c h x k b r e f = f ∙ ap (λ (d : RegionBox). in_box (box_meant V# d) (config_meant V# x)) e
 
-pub move_part_lem : (V# : ℕ) (s : List ℕ) (region a at : ℕ) (m : RegionMove) → at ≡ move_place s region a → m ≡ move_three V# (take (length s - at) (drop at s)) → m ≡ move_in V# s region a
+pub move_part_lem : (V# : ℕ) (s : List ℕ) (region a at : ℕ) (m : Option RegionMove) → at ≡ move_place s region a → m ≡ move_three V# (take (length s - at) (drop at s)) → m ≡ move_in V# s region a
 unfolding move_in
 move_part_lem V# s region a at m e f = f ∙ ap (move_three V#) (rest at s ∙ ap (λ (k : ℕ). drop k s) e)

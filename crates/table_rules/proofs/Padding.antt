@@ -18,7 +18,7 @@ use Rattle.sheet_bytes.specs.declared.Config.{Config}
 use Rattle.sheet_bytes.specs.declared.Rules.{Rules}
 use Rattle.sheet_bytes.specs.declared.RegionMove.{RegionMove}
 use Rattle.sheet_rules.specs.Layout.{counters_of}
-use Rattle.sheet_bytes.specs.Three.{firsts, ranges_meant, values_meant, rules_meant, padded_out, zero_range, zero_rule, box_three, start_three, move_three}
+use Rattle.sheet_bytes.specs.Three.{firsts, ranges_meant, values_meant, rules_meant, padded_out, zero_range, zero_rule, box_three, start_three, open_three}
 use Rattle.sheet_bytes.specs.Space.{RulesSafe, ValuesWithin, fits_safe, land_three, all_three}
 use Rattle.sheet_bytes.specs.Cuts.{empty_three, narrow_three, cut_three, cuts_three}
 use Rattle.sheet_bytes.specs.Bounds.{RangesWithin, RulesFit}
@@ -33,8 +33,7 @@ pub start_padded : (s : List ℕ) → PaddedValues (counters_of s) (start_three 
 unfolding start_three
 start_padded s = record { second_zero = λ h. padded_out _ _ _ 1 h; third_zero = λ h. padded_out _ _ _ 2 h }
 
-pub move_padded : (V# : ℕ) (p : List ℕ) → PaddedRules V# (move_three V# p).rules
-unfolding move_three
+pub move_padded : (V# : ℕ) (p : List ℕ) → PaddedRules V# (open_three V# p).rules
 move_padded V# p = record { second_zero = λ h. padded_out _ _ _ 1 h; third_zero = λ h. padded_out _ _ _ 2 h }
 
 -- a landing by padded rules is padded

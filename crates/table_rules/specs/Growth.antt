@@ -1,5 +1,5 @@
 -- The row for a configuration: one that has it, or a new one.
-use Rattle.std.specs.Prelude.{◌≡◌, true, List, ℕ, ◌+◌, ◌≤◌, ◌<◌, ℤ}
+use Rattle.std.specs.Prelude.{◌≡◌, true, List, ℕ, ◌+◌, ◌≤◌, ◌<◌, ℤ, Option, None, Some}
 use Rattle.model.specs.Sheet.{region_number}
 use Rattle.sheet_bytes.specs.declared.Config.{Config}
 use Rattle.sheet_rules.specs.Decode.{decode}
@@ -16,13 +16,13 @@ new_cells V# s c n x = put_ranges (put_values c n x.values) n (box_three s (regi
 unfoldable pub new_homes : ℕ → List ℕ → List ℕ → ℕ → Config → List ℕ
 new_homes V# s h n x = put_home h n (region_number (decode s) (config_meant V# x)) x.state
 
--- Of the row for a configuration in arrays of n rows: one of them, and nothing was done; or a new one, with the number n; or none (255), where there are 255
--- rows and no more fit.
-pub data RowFor (V# : ℕ) (s : List ℕ) (c : List ℤ) (h f d : List ℕ) (n : ℕ) (x : Config) : List ℤ → List ℕ → List ℕ → List ℕ → ℕ → Type 0 where
-  row_there : (j : ℕ) → j < n → holds_in V# c h x j ≡ true → RowFor V# s c h f d n x c h f d j
+-- Of the row for a configuration in arrays of n rows: one of them, and nothing was done; or a new one, with the number n; or none, where there are 255 rows
+-- and no more fit.
+pub data RowFor (V# : ℕ) (s : List ℕ) (c : List ℤ) (h f d : List ℕ) (n : ℕ) (x : Config) : List ℤ → List ℕ → List ℕ → List ℕ → Option ℕ → Type 0 where
+  row_there : (j : ℕ) → j < n → holds_in V# c h x j ≡ true → RowFor V# s c h f d n x c h f d (Some j)
   row_new : {c' : List ℤ} {h' f' d' : List ℕ} → n < 255 → NoneHolds V# c h x n → c' ≡ new_cells V# s c n x → h' ≡ new_homes V# s h n x → RowRaised f f' n → Begun d d' n
-      → RowFor V# s c h f d n x c' h' f' d' n
-  row_none : n ≡ 255 → NoneHolds V# c h x n → RowFor V# s c h f d n x c h f d 255
+      → RowFor V# s c h f d n x c' h' f' d' (Some n)
+  row_none : n ≡ 255 → NoneHolds V# c h x n → RowFor V# s c h f d n x c h f d None
 
 -- the number of rows with row j among them
 pub record RowsWith (n j r : ℕ) : Type 0 where

@@ -1,5 +1,5 @@
 -- Flags: what the functions that raise and look for them give.
-use Rattle.std.specs.Prelude.{◌≡◌, Bool, true, false, List, ℕ, ◌+◌, ◌≤◌, ◌<◌, eqb, length, get_or}
+use Rattle.std.specs.Prelude.{◌≡◌, Bool, true, false, List, ℕ, ◌+◌, ◌≤◌, ◌<◌, eqb, length, get_or, Option, None, Some}
 use Rattle.table_rules.specs.Arrays.{target_in, flag_in}
 
 -- a flag after a look at one target: up, if that is i
@@ -48,12 +48,12 @@ pub record AnyRaised (f : List ℕ) (actions k : ℕ) (r : Bool) : Type 0 where
   pub up : r ≡ true → UpBelow f k actions
   pub down : r ≡ false → DownBelow f k actions
 
--- Of a search for the last row below n of which a flag is up: it is found, or it is n and there is none.
-pub record LastRaised (f : List ℕ) (actions n k : ℕ) : Type 0 where
-  pub few : k ≤ n
-  pub found : k < n → UpBelow f k actions
-  pub above : (i : ℕ) → k < i → i < n → DownBelow f i actions
-  pub none : k ≡ n → (i : ℕ) → i < n → DownBelow f i actions
+-- Of a search for the last row below n of which a flag is up: it is found, or there is none.
+pub record LastRaised (f : List ℕ) (actions n : ℕ) (r : Option ℕ) : Type 0 where
+  pub few : (k : ℕ) → r ≡ Some k → k < n
+  pub found : (k : ℕ) → r ≡ Some k → UpBelow f k actions
+  pub above : (k : ℕ) → r ≡ Some k → (i : ℕ) → k < i → i < n → DownBelow f i actions
+  pub none : r ≡ None → (i : ℕ) → i < n → DownBelow f i actions
 
 -- no flag of the rows from k up to n is up
 abbrev pub DownFrom : List ℕ → ℕ → ℕ → ℕ → Type 0

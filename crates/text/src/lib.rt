@@ -5,7 +5,7 @@
 
 ghost use Rattle.std.specs.Prelude.{◌≤◌, length, IfOk};
 
-use answers::Checked;
+use answers::Refusal;
 use std::io::{self, Read};
 
 // Reads until the buffer is full or the input ends, and returns how many bytes now stand at its start.
@@ -24,21 +24,9 @@ pub fn read_full(rt: &impl Input, buffer: &mut [u8]) -> io::Result<usize>
     Ok(filled)
 }
 
-pub fn put(rt: &impl Print, s: &[u8]) -> io::Result<()> {
-    rt.write_all(s)
-}
-
-pub fn put_number(rt: &impl Print, n: u64) -> io::Result<()> {
-    print!(rt; "{n}")
-}
-
-// A signed number, with `-` in front where it is negative.
-pub fn put_signed(rt: &impl Print, z: i64) -> io::Result<()> {
-    print!(rt; "{z}")
-}
-
-pub fn put_refusal(rt: &impl Print, number: u8, returned: usize) -> io::Result<()> {
-    println!(rt; "refused {number} at {returned}")
+// A refusal's line.
+pub fn put_refusal(rt: &impl Print, refusal: Refusal) -> io::Result<()> {
+    println!(rt; "{refusal}")
 }
 
 // The first line of a chart's listing.
@@ -52,12 +40,5 @@ pub fn put_target(rt: &impl Print, target: u8, a: usize) -> io::Result<()> {
         print!(rt; " a{a} -")
     } else {
         print!(rt; " a{a} {target}")
-    }
-}
-
-pub fn put_checked(rt: &impl Print, r: Checked) -> io::Result<()> {
-    match r {
-        Checked::Fine => put(rt, b"fine\n"),
-        Checked::Refused { number, returned } => put_refusal(rt, number, returned),
     }
 }

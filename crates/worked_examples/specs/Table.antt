@@ -1,13 +1,10 @@
 -- The worked examples of document 01, and some of document 02 (ways of U1, evidence of U2, version 2 of U4, depths of U6, counts of U13), computed on the
 -- definitions: a row for each, one test over the table, one proof.
-use Rattle.std.specs.Prelude.{Bool, true, false, ◌&&◌, List, [], ◌∷◌, ℕ, suc, eqb, set, ℤ, pos, negsuc}
-use Rattle.std.proofs.Math.Option.{Option, some, none}
+use Rattle.std.specs.Prelude.{Bool, true, false, ◌&&◌, List, [], ◌∷◌, ℕ, suc, eqb, set, ℤ, pos, negsuc, Option, Some, None, Ok, Err}
 use Rattle.std.specs.Int.Signed.{le_z}
 use Rattle.integers.specs.declared.Range.{Range}
 use Rattle.integers.specs.Inverse.{inverse}
 use Rattle.systems.specs.System.{same_numbers, same_index}
-use Rattle.answer_rules.specs.declared.Checked.{Checked}
-use Rattle.answer_rules.specs.declared.Checked.TheVariants.{Fine, Refused}
 use Rattle.model.specs.declared.Rule.TheVariants.{Carry}
 use Rattle.model.specs.Sheet.{Move, Barred, Open, Region, Sheet, sheet_reading}
 use Rattle.model.specs.Blocks.{blocks, chart_of, box_list_of}
@@ -17,6 +14,7 @@ use Rattle.congruence_rules.specs.Congruence.{counts_left}
 use Rattle.access_rules.specs.Access.{way_to}
 use Rattle.separation_rules.specs.Separation.{evidence}
 use Rattle.sheet_rules.specs.Check.{sheet_check}
+use Rattle.answer_rules.specs.Refusal.{Checked, number_of}
 
 -- one example: what is computed, and what document 01 says it is
 pub data Row : Type 0 where
@@ -45,22 +43,26 @@ unfoldable pub same_z : ℤ → ℤ → Bool
 same_z a b = le_z a b && le_z b a
 
 unfoldable pub same_word : Option (List ℕ) → Option (List ℕ) → Bool
-same_word none none = true
-same_word none (some w) = false
-same_word (some v) none = false
-same_word (some v) (some w) = same_numbers v w
+same_word None None = true
+same_word None (Some w) = false
+same_word (Some v) None = false
+same_word (Some v) (Some w) = same_numbers v w
 
-unfoldable pub same_checked : Checked → Checked → Bool
-same_checked Fine Fine = true
-same_checked Fine (Refused n p) = false
-same_checked (Refused m q) Fine = false
-same_checked (Refused m q) (Refused n p) = eqb m n && eqb q p
+-- a check passed
+unfoldable pub accepts : Checked → Bool
+accepts (Ok _) = true
+accepts (Err why) = false
+
+-- it refused by a number and a place
+unfoldable pub refuses : Checked → ℕ → ℕ → Bool
+refuses (Ok _) n p = false
+refuses (Err why) n p = eqb (number_of why.reason) n && eqb why.returned p
 
 unfoldable pub test : Row → Bool
 test (inverse_row f b r q) = same_z (inverse f b r).low q.low && same_z (inverse f b r).high q.high
 test (chart_row s l) = same_numbers (chart_of s) l
-test (accepted_row s l) = same_checked (sheet_check s) Fine && same_numbers (chart_of (decode s)) l
-test (refused_row s n p) = same_checked (sheet_check s) (Refused n p)
+test (accepted_row s l) = accepts (sheet_check s) && same_numbers (chart_of (decode s)) l
+test (refused_row s n p) = refuses (sheet_check s) n p
 test (boxes_row n s l) = same_numbers (box_list_of n s) l
 test (reading_row s w l b) = same_numbers (sheet_reading s w).entries l && same_index (sheet_reading s w).barred b
 test (depth_row c d n) = eqb (depth_of c) d && eqb (depth_limit c) n
@@ -163,7 +165,7 @@ table =
     ∷ chart_row doubling (66 ∷ 67 ∷ 72 ∷ 1 ∷ 0 ∷ 1 ∷ 1 ∷ 10 ∷ 0 ∷ 0 ∷ [])
     ∷ boxes_row 2 doubling (0 ∷ 0 ∷ 0 ∷ 0 ∷ 0 ∷ [])
     -- P9, as U5 of document 02 has it
-    ∷ reading_row first (0 ∷ 0 ∷ 0 ∷ []) (10 ∷ 10 ∷ 20 ∷ 65535 ∷ []) (some 2)
+    ∷ reading_row first (0 ∷ 0 ∷ 0 ∷ []) (10 ∷ 10 ∷ 20 ∷ 65535 ∷ []) (Some 2)
     -- the ways to P1's blocks; to a block that one action reaches, though two of another would; and to one that 0, 1 and 1, 0 lead to
     ∷ way_row first 0 []
     ∷ way_row first 1 (0 ∷ [])
@@ -178,15 +180,15 @@ table =
     ∷ depth_row (66 ∷ 67 ∷ 72 ∷ 1 ∷ 0 ∷ 1 ∷ 4 ∷ 10 ∷ 0 ∷ 1 ∷ 10 ∷ 0 ∷ 2 ∷ 10 ∷ 0 ∷ 3 ∷ 20 ∷ 0 ∷ 255 ∷ []) 2 2
     ∷ depth_row (66 ∷ 67 ∷ 72 ∷ 1 ∷ 0 ∷ 1 ∷ 4 ∷ 10 ∷ 0 ∷ 1 ∷ 10 ∷ 0 ∷ 2 ∷ 20 ∷ 0 ∷ 3 ∷ 20 ∷ 0 ∷ 0 ∷ []) 1 2
     -- P1's chart beside itself; beside one whose block 0 leads to the last label at once; beside one with another label at block 0
-    ∷ part_row (chart 1 3 (10 ∷ 0 ∷ 1 ∷ 10 ∷ 0 ∷ 2 ∷ 20 ∷ 0 ∷ 255 ∷ [])) (chart 1 3 (10 ∷ 0 ∷ 1 ∷ 10 ∷ 0 ∷ 2 ∷ 20 ∷ 0 ∷ 255 ∷ [])) none
-    ∷ part_row (chart 1 3 (10 ∷ 0 ∷ 1 ∷ 10 ∷ 0 ∷ 2 ∷ 20 ∷ 0 ∷ 255 ∷ [])) (chart 1 2 (10 ∷ 0 ∷ 1 ∷ 20 ∷ 0 ∷ 255 ∷ [])) (some (0 ∷ []))
-    ∷ part_row (chart 1 3 (10 ∷ 0 ∷ 1 ∷ 10 ∷ 0 ∷ 2 ∷ 20 ∷ 0 ∷ 255 ∷ [])) (chart 1 1 (20 ∷ 0 ∷ 255 ∷ [])) (some [])
+    ∷ part_row (chart 1 3 (10 ∷ 0 ∷ 1 ∷ 10 ∷ 0 ∷ 2 ∷ 20 ∷ 0 ∷ 255 ∷ [])) (chart 1 3 (10 ∷ 0 ∷ 1 ∷ 10 ∷ 0 ∷ 2 ∷ 20 ∷ 0 ∷ 255 ∷ [])) None
+    ∷ part_row (chart 1 3 (10 ∷ 0 ∷ 1 ∷ 10 ∷ 0 ∷ 2 ∷ 20 ∷ 0 ∷ 255 ∷ [])) (chart 1 2 (10 ∷ 0 ∷ 1 ∷ 20 ∷ 0 ∷ 255 ∷ [])) (Some (0 ∷ []))
+    ∷ part_row (chart 1 3 (10 ∷ 0 ∷ 1 ∷ 10 ∷ 0 ∷ 2 ∷ 20 ∷ 0 ∷ 255 ∷ [])) (chart 1 1 (20 ∷ 0 ∷ 255 ∷ [])) (Some [])
     -- charts of one block: an action that is barred in one alone needs N1 + N2 - 1 actions
-    ∷ part_row (chart 1 1 (10 ∷ 0 ∷ 0 ∷ [])) (chart 1 1 (10 ∷ 0 ∷ 255 ∷ [])) (some (0 ∷ []))
+    ∷ part_row (chart 1 1 (10 ∷ 0 ∷ 0 ∷ [])) (chart 1 1 (10 ∷ 0 ∷ 255 ∷ [])) (Some (0 ∷ []))
     -- rings of two and three blocks whose labels agree for three entries and no longer: N1 + N2 - 2 actions
-    ∷ part_row (chart 1 2 (10 ∷ 0 ∷ 1 ∷ 20 ∷ 0 ∷ 0 ∷ [])) (chart 1 3 (10 ∷ 0 ∷ 1 ∷ 20 ∷ 0 ∷ 2 ∷ 10 ∷ 0 ∷ 0 ∷ [])) (some (0 ∷ 0 ∷ 0 ∷ []))
+    ∷ part_row (chart 1 2 (10 ∷ 0 ∷ 1 ∷ 20 ∷ 0 ∷ 0 ∷ [])) (chart 1 3 (10 ∷ 0 ∷ 1 ∷ 20 ∷ 0 ∷ 2 ∷ 10 ∷ 0 ∷ 0 ∷ [])) (Some (0 ∷ 0 ∷ 0 ∷ []))
     -- charts that 0, 1 and 1, 1 part, and many longer sequences
-    ∷ part_row (chart 2 2 (10 ∷ 0 ∷ 1 ∷ 1 ∷ 20 ∷ 0 ∷ 255 ∷ 0 ∷ [])) (chart 2 3 (10 ∷ 0 ∷ 1 ∷ 1 ∷ 20 ∷ 0 ∷ 255 ∷ 2 ∷ 30 ∷ 0 ∷ 255 ∷ 255 ∷ [])) (some (0 ∷ 1 ∷ []))
+    ∷ part_row (chart 2 2 (10 ∷ 0 ∷ 1 ∷ 1 ∷ 20 ∷ 0 ∷ 255 ∷ 0 ∷ [])) (chart 2 3 (10 ∷ 0 ∷ 1 ∷ 1 ∷ 20 ∷ 0 ∷ 255 ∷ 2 ∷ 30 ∷ 0 ∷ 255 ∷ 255 ∷ [])) (Some (0 ∷ 1 ∷ []))
     -- P1 as version 2: the same chart, and bounds of four bytes
     ∷ accepted_row wide_bytes (66 ∷ 67 ∷ 72 ∷ 1 ∷ 0 ∷ 1 ∷ 3 ∷ 10 ∷ 0 ∷ 1 ∷ 10 ∷ 0 ∷ 2 ∷ 20 ∷ 0 ∷ 255 ∷ [])
     ∷ boxes_row 4 mirror (0 ∷ 248 ∷ 255 ∷ 255 ∷ 255 ∷ 7 ∷ 0 ∷ 0 ∷ 0 ∷ [])

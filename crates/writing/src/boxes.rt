@@ -6,9 +6,9 @@ ghost use Rattle.model.specs.Blocks.{signed_bytes};
 ghost use Rattle.refinement.specs.Completed.{box_bytes, table_boxes};
 ghost use Rattle.sheet_rules.specs.Shape.{TwoOrFour};
 ghost use Rattle.sheet_bytes.specs.Three.{box_meant};
-ghost use Rattle.table_rules.specs.Arrays.{CellsRoom, HomesRoom, box_in};
+ghost use Rattle.table_rules.specs.Arrays.{box_in};
 ghost use Rattle.table_rules.specs.Meaning.{row_in};
-ghost use Rattle.writing.specs.Numbers.{OrderRoom, entry_in};
+ghost use Rattle.writing.specs.Numbers.{entry_in};
 ghost use Rattle.writing.specs.Stored.{stored};
 ghost use Rattle.writing.specs.BoxBytes.{bounds_bytes, Bounded, AllBounded};
 
@@ -23,9 +23,9 @@ fn whole(width: usize) -> i64
 }
 
 // The bits of a cell, 2 or 4 bytes of them, in two's complement.
-fn bits_of(cells: &[i64], from: usize, width: usize) -> usize
+fn bits_of(cells: &[i64; 2295], from: usize, width: usize) -> usize
     requires two_or_four { TwoOrFour width }
-    requires from_in_bounds { from < length cells.now }
+    requires from_in_bounds { from < 2295 }
     requires holds { Holds width (get_or cells.now from (pos 0)) }
     ensures { (result ≡ bits_of width (get_or cells.now from (pos 0))) × (result < 2 ^ (8 * width)) }
 {
@@ -48,9 +48,9 @@ fn put_two(bits: usize, out: &mut [u8], at: usize)
 }
 
 // The bytes of a cell.
-fn put_cell(cells: &[i64], from: usize, width: usize, out: &mut [u8], at: usize)
+fn put_cell(cells: &[i64; 2295], from: usize, width: usize, out: &mut [u8], at: usize)
     requires two_or_four { TwoOrFour width }
-    requires from_in_bounds { from < length cells.now }
+    requires from_in_bounds { from < 2295 }
     requires holds { Holds width (get_or cells.now from (pos 0)) }
     requires width_in_bounds { at + width ≤ length out.old }
     ensures { out.new ≡ stored out.old at (signed_bytes width (get_or cells.now from (pos 0))) }
@@ -63,9 +63,8 @@ fn put_cell(cells: &[i64], from: usize, width: usize, out: &mut [u8], at: usize)
 }
 
 // The first n bounds of row i.
-fn put_bounds(cells: &[i64], width: usize, n: usize, i: usize, out: &mut [u8], at: usize)
+fn put_bounds(cells: &[i64; 2295], width: usize, n: usize, i: usize, out: &mut [u8], at: usize)
     requires two_or_four { TwoOrFour width }
-    requires cells_room { CellsRoom cells.now }
     requires n_bound { (n ≤ 6) × (i < 255) }
     requires bounded { Bounded width cells.now n i }
     requires n_in_bounds { at + width * n ≤ length out.old }
@@ -77,9 +76,14 @@ fn put_bounds(cells: &[i64], width: usize, n: usize, i: usize, out: &mut [u8], a
 }
 
 // The box of row i: its state, then low and high of each counter.
-fn put_box(cells: &[i64], homes: &[u8], shape: Shape, i: usize, out: &mut [u8], at: usize)
-    requires cells_room { CellsRoom cells.now }
-    requires homes_room { HomesRoom homes.now }
+fn put_box(
+    cells: &[i64; 2295],
+    homes: &[u8; 510],
+    shape: Shape,
+    i: usize,
+    out: &mut [u8],
+    at: usize,
+)
     requires two_or_four { TwoOrFour shape.width × (shape.counters ≤ 3) × (i < 255) }
     requires bounded { Bounded shape.width cells.now (2 * shape.counters) i }
     requires counters_in_bounds { at + 1 + 2 * shape.width * shape.counters ≤ length out.old }
@@ -91,16 +95,13 @@ fn put_box(cells: &[i64], homes: &[u8], shape: Shape, i: usize, out: &mut [u8], 
 
 // The boxes of n rows, in their order.
 pub(crate) fn write_boxes(
-    cells: &[i64],
-    homes: &[u8],
+    cells: &[i64; 2295],
+    homes: &[u8; 510],
     shape: Shape,
-    order: &[u8],
+    order: &[u8; 255],
     n: usize,
     out: &mut [u8],
 )
-    requires cells_room { CellsRoom cells.now }
-    requires homes_room { HomesRoom homes.now }
-    requires order_room { OrderRoom order.now }
     requires two_or_four { TwoOrFour shape.width × (shape.counters ≤ 3) × (n ≤ 255) }
     requires all_bounded { AllBounded shape.width cells.now order.now (2 * shape.counters) n }
     requires counters_in_bounds { n * (1 + 2 * shape.width * shape.counters) ≤ length out.old }

@@ -2,23 +2,20 @@
 ghost use Rattle.std.specs.Prelude.{◌+◌, ◌<◌};
 ghost use Rattle.refinement.specs.Numbering.{walk};
 ghost use Rattle.refinement.specs.Walk.{Numbered};
-ghost use Rattle.table_rules.specs.Arrays.{TargetsRoom, target_in};
-ghost use Rattle.writing.specs.Numbers.{entry_in, OrderRoom, NumberRoom, Unnumbered, Walkable, Walked};
+ghost use Rattle.table_rules.specs.Arrays.{target_in};
+ghost use Rattle.writing.specs.Numbers.{entry_in, Unnumbered, Walkable, Walked};
 
 // Looks at the target of action a in member m: it gets the next number, if it has none. Returns how many have one.
 fn number_target(
-    targets: &[u8],
+    targets: &[u8; 2040],
     actions: usize,
     n: usize,
-    order: &mut [u8],
-    number: &mut [u8],
+    order: &mut [u8; 255],
+    number: &mut [u8; 256],
     m: usize,
     a: usize,
     c: usize,
 ) -> usize
-    requires targets_room { TargetsRoom targets.now }
-    requires order_room { OrderRoom order.old }
-    requires number_room { NumberRoom number.old }
     requires walkable { Walkable targets.now actions n }
     requires m_lt_n { (m < n) × (a < actions) }
     requires walked { Walked targets.now actions m a order.old number.old c }
@@ -39,17 +36,14 @@ fn number_target(
 
 // The same for all actions of member m.
 fn number_targets(
-    targets: &[u8],
+    targets: &[u8; 2040],
     actions: usize,
     n: usize,
-    order: &mut [u8],
-    number: &mut [u8],
+    order: &mut [u8; 255],
+    number: &mut [u8; 256],
     m: usize,
     before: usize,
 ) -> usize
-    requires targets_room { TargetsRoom targets.now }
-    requires order_room { OrderRoom order.old }
-    requires number_room { NumberRoom number.old }
     requires walkable { Walkable targets.now actions n }
     requires m_lt_n { m < n }
     requires walked { Walked targets.now actions m 0 order.old number.old before }
@@ -64,15 +58,12 @@ fn number_targets(
 
 // Numbers the rows of a completed table: `order` then has the row of each number, `number` the number of each row.
 pub(crate) fn number_rows(
-    targets: &[u8],
+    targets: &[u8; 2040],
     actions: usize,
     n: usize,
-    order: &mut [u8],
-    number: &mut [u8],
+    order: &mut [u8; 255],
+    number: &mut [u8; 256],
 )
-    requires targets_room { TargetsRoom targets.now }
-    requires order_room { OrderRoom order.old }
-    requires number_room { NumberRoom number.old }
     requires unnumbered { Unnumbered number.old }
     requires walkable { Walkable targets.now actions n }
     ensures { Numbered (walk (target_in targets.now) actions 255) (entry_in order.new) (entry_in number.new) n }

@@ -1,70 +1,57 @@
-use mathlib.Core.Path.{◌≡◌, sym, ◌∙◌}
+use mathlib.Core.Path.{sym, ap, ◌∙◌}
+use mathlib.Core.List.{List}
 use Prim.Native.Nat.{ℕ}
-use native.Mathlib.Omega.{arith}
-use Rattle.answer_rules.specs.Stages.{and_then}
-use Rattle.answer_rules.proofs.Stages.{stop, go_on}
-use Rattle.chart_bytes.specs.HeaderLaws.{header_passed}
-use Rattle.chart_form.specs.Form.{limits_check, numbers_check, bars_check}
+use Rattle.std.proofs.Common.{Ok}
+use Rattle.answer_rules.proofs.Stages.{passed, refused, handed_up, then_ok, then_err}
 use Rattle.chart.specs.Check.{form_check}
 use Rattle.chart.proofs.check_form.Goals as goal
 
-pub returns-in_default : goal.returns-in_default
+pub returns-in_err-chart-clause-value : goal.returns-in_err-chart-clause-value
 unfolding form_check
-returns-in_default c =
-    let k = c.args.c.now in
-    record {
-      value = stop (and_then (limits_check k) (and_then (numbers_check k) (bars_check k))) c.check_header-found.ensures c.in_default.is;
-      holds = λ e. let q = c.in_default.is in let z : ◌≡◌ {A = ℕ} 0 1 = cc in absurd (omega arith);
-      f_len = c.requires;
-    }
+returns-in_err-chart-clause-value c =
+    handed_up c.from_residual.ensures ∙ refused _ (sym (refused _ (then_err _ _ (sym c.new.ensures ∙ c.in_err-chart.was))))
 
-pub check_limits-limits-requires : goal.check_limits-limits-requires
-check_limits-limits-requires c = (header_passed c.args.c.now (sym c.check_header-found.ensures ∙ c.in-Fine.is)).1
-
-pub returns-in_default-limits : goal.returns-in_default-limits
+pub returns-in_err-check_limits-clause-value : goal.returns-in_err-check_limits-clause-value
 unfolding form_check
-returns-in_default-limits c =
-    let k = c.args.c.now in
-    record {
-      value = go_on c.check_header-found.ensures c.in-Fine.is (stop (and_then (numbers_check k) (bars_check k)) c.check_limits-limits.ensures c.in_default-limits.is);
-      holds = λ e. let q = c.in_default-limits.is in let z : ◌≡◌ {A = ℕ} 0 1 = cc in absurd (omega arith);
-      f_len = c.requires;
-    }
+returns-in_err-check_limits-clause-value c =
+    let (h, e) = then_ok _ (sym c.new.ensures ∙ c.in_ok-chart.was) in
+    let l = rw e at c.check_limits.ensures in
+    handed_up c.from_residual-in_err-check_limits.ensures ∙ refused _ (sym (passed h (refused _ (sym l ∙ c.in_err-check_limits.was))))
 
-pub check_numbers-numbers-requires : goal.check_numbers-numbers-requires
-check_numbers-numbers-requires c = (header_passed c.args.c.now (sym c.check_header-found.ensures ∙ c.in-Fine.is)).1
-
-pub returns-in_default-numbers : goal.returns-in_default-numbers
+pub returns-in_err-check_numbers-clause-value : goal.returns-in_err-check_numbers-clause-value
 unfolding form_check
-returns-in_default-numbers c =
-    record {
-      value = go_on c.check_header-found.ensures c.in-Fine.is
-          (go_on c.check_limits-limits.ensures c.in-Fine-limits.is (stop (bars_check c.args.c.now) c.check_numbers-numbers.ensures c.in_default-numbers.is));
-      holds = λ e. let q = c.in_default-numbers.is in let z : ◌≡◌ {A = ℕ} 0 1 = cc in absurd (omega arith);
-      f_len = c.requires;
-    }
-
-pub by_labels-requires : goal.by_labels-requires
-by_labels-requires c =
-    record {
-      shaped = (header_passed c.args.c.now (sym c.check_header-found.ensures ∙ c.in-Fine.is)).1;
-      f_len = c.requires;
-    }
+returns-in_err-check_numbers-clause-value c =
+    let (h, e) = then_ok _ (sym c.new.ensures ∙ c.in_ok-chart.was) in
+    let l = rw e at c.check_limits.ensures in
+    let n = rw e at c.check_numbers.ensures in
+    handed_up c.from_residual-in_err-check_numbers.ensures
+    ∙ refused _ (sym (passed h (passed (sym l ∙ c.in_ok-check_limits.was) (refused _ (sym n ∙ c.in_err-check_numbers.was)))))
 
 pub check_bars-requires : goal.check_bars-requires
-check_bars-requires c =
-    record {
-      shaped = (header_passed c.args.c.now (sym c.check_header-found.ensures ∙ c.in-Fine.is)).1;
-      f_len = c.by_labels.ensures.f_len_2;
-      holds = c.by_labels.ensures.holds;
-    }
+check_bars-requires c = record { holds = c.by_labels.ensures.holds }
 
-pub returns : goal.returns
+pub returns-in_err-check_bars-clause-value : goal.returns-in_err-check_bars-clause-value
 unfolding form_check
-returns c =
-    record {
-      value = go_on c.check_header-found.ensures c.in-Fine.is
-          (go_on c.check_limits-limits.ensures c.in-Fine-limits.is (go_on c.check_numbers-numbers.ensures c.in-Fine-numbers.is c.check_bars.ensures));
-      holds = λ e. c.by_labels.ensures.holds;
-      f_len = c.by_labels.ensures.f_len_2;
-    }
+returns-in_err-check_bars-clause-value c =
+    let (h, e) = then_ok _ (sym c.new.ensures ∙ c.in_ok-chart.was) in
+    let l = rw e at c.check_limits.ensures in
+    let n = rw e at c.check_numbers.ensures in
+    let b = rw e at c.check_bars.ensures in
+    handed_up c.from_residual-in_err-check_bars.ensures
+    ∙ refused _ (sym (passed h (passed (sym l ∙ c.in_ok-check_limits.was) (passed (sym n ∙ c.in_ok-check_numbers.was) (sym c.in_err-check_bars.was ∙ b)))))
+
+pub returns-clause-value : goal.returns-clause-value
+unfolding form_check
+returns-clause-value c =
+    let (h, e) = then_ok _ (sym c.new.ensures ∙ c.in_ok-chart.was) in
+    let l = rw e at c.check_limits.ensures in
+    let n = rw e at c.check_numbers.ensures in
+    let b = rw e at c.check_bars.ensures in
+    passed
+    (sym (passed h (passed (sym l ∙ c.in_ok-check_limits.was) (passed (sym n ∙ c.in_ok-check_numbers.was) (sym c.in_ok-check_bars.was ∙ b)))))
+    (ap (λ (x : List ℕ). Ok x) e)
+
+pub returns-clause-holds : goal.returns-clause-holds
+returns-clause-holds c =
+    let (h, e) = then_ok _ (sym c.new.ensures ∙ c.in_ok-chart.was) in
+    rw e at c.by_labels.ensures.holds

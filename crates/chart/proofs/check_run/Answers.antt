@@ -1,25 +1,35 @@
 use mathlib.Core.Path.{sym, ap, ◌∙◌}
+use mathlib.Core.List.{List}
 use Prim.Native.Nat.{ℕ}
-use Rattle.answer_rules.proofs.Stages.{passed, handed}
+use Rattle.std.proofs.Common.{Ok}
+use Rattle.answer_rules.proofs.Stages.{passed, refused, handed_up}
 use Rattle.answer_rules.specs.Run.{run_checks}
 use Rattle.model.specs.Chart.{actions_of}
 use Rattle.chart.specs.RunChart.{chart_run_check}
 use Rattle.chart.specs.Accepted.{check_passed}
 use Rattle.chart.proofs.check_run.Goals as goal
 
-pub returns-in_default : goal.returns-in_default
+pub returns-in_err-check : goal.returns-in_err-check
 unfolding chart_run_check
-returns-in_default c =
-    let s = c.args in
-    let e = c.check-chart.ensures in
-    e ∙ handed (run_checks (actions_of s.c.now) s.actions.now s.room) (sym e ∙ c.in_default.is)
+returns-in_err-check c =
+    handed_up c.from_residual.ensures ∙ refused _ (sym (refused _ (sym c.check.ensures ∙ c.in_err-check.was)))
 
-pub actions_of-requires : goal.actions_of-requires
-actions_of-requires c = (check_passed c.args.c.now (sym c.check-chart.ensures ∙ c.in-Fine.is)).shape
+pub over-chart-requires : goal.over-chart-requires
+over-chart-requires c = (check_passed c.args.c.now (sym c.check.ensures ∙ c.in_ok-check.was)).shape
+
+pub returns-in_err-check_sequence : goal.returns-in_err-check_sequence
+unfolding chart_run_check
+returns-in_err-check_sequence c =
+    let s = c.args in
+    let n = c.actions.ensures.value ∙ ap actions_of c.over-chart.ensures in
+    let q = c.check_sequence.ensures ∙ ap (λ (n : ℕ). run_checks n s.actions.now s.room) n in
+    handed_up c.from_residual-in_err-check_sequence.ensures
+    ∙ refused _ (sym (passed (sym c.check.ensures ∙ c.in_ok-check.was) (sym c.in_err-check_sequence.was ∙ q)))
 
 pub returns : goal.returns
 unfolding chart_run_check
 returns c =
     let s = c.args in
-    passed (sym c.check-chart.ensures ∙ c.in-Fine.is)
-    (c.check_sequence.ensures ∙ ap (λ (n : ℕ). run_checks n s.actions.now s.room) c.actions_of.ensures)
+    let n = c.actions.ensures.value ∙ ap actions_of c.over-chart.ensures in
+    let q = c.check_sequence.ensures ∙ ap (λ (n : ℕ). run_checks n s.actions.now s.room) n in
+    passed (sym (passed (sym c.check.ensures ∙ c.in_ok-check.was) (sym c.in_ok-check_sequence.was ∙ q))) (ap (λ (x : List ℕ). Ok x) c.over-chart.ensures)

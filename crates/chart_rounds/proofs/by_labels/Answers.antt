@@ -1,12 +1,10 @@
-use mathlib.Core.Path.{refl, ◌∙◌}
 use native.Mathlib.Omega.{arith}
-use lib.ListN.{length-set}
 use Rattle.model.specs.Chart.{round_class}
 use Rattle.chart_bytes.specs.Classes.{store_next}
 use Rattle.chart_rounds.proofs.by_labels.Goals as goal
 
 pub loop-i-init : goal.loop-i-init
-loop-i-init c = (omega arith, refl, λ k h. absurd (omega arith))
+loop-i-init c = (omega arith, λ k h. absurd (omega arith))
 
 pub overflow_cast-f : goal.overflow_cast-f
 overflow_cast-f c = omega arith
@@ -19,14 +17,10 @@ loop-i-preserved c =
     let s = c.args in
     let l = c.loop-i in (
       omega arith,
-      length-set l.f l.i c.label_class.result ∙ l.invariant.1,
-      store_next l.f l.i c.label_class.result (round_class s.c.now 0) (omega arith) c.label_class.ensures.0 l.invariant.2,
+      store_next l.f l.i c.label_class.result (round_class s.c.now 0) (omega arith) c.label_class.ensures.0 l.invariant.1,
     )
-
-pub shape_of-f : goal.shape_of-f
-shape_of-f c = c.loop-i.invariant.1
 
 pub returns : goal.returns
 returns c =
     let l = c.loop-i in
-    record { holds = record { at = λ i h. l.invariant.2 i (omega arith) }; f_len_2 = omega arith }
+    record { holds = record { at = λ i h. l.invariant.1 i (omega arith) } }

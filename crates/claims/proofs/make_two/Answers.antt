@@ -13,13 +13,13 @@ returns c =
     let B : Bytes s = λ i. (c.type_inv.first i).fits in
     let D : Bytes t = λ i. (c.type_inv.second i).fits in
     record {
-      demand3 = demand_3_of s t chart₁ list₁ chart₂ list₂ B D c.make-one.ensures.value c.make-two.ensures.value c.make-one.ensures.chart_after c.make-two.ensures.chart_after;
-      demand2 = demand_2_of s chart₁ list₁ B c.make-one.ensures.value c.make-one.ensures.chart_after c.make-one.ensures.list_after;
-      demand2_2 = demand_2_of t chart₂ list₂ D c.make-two.ensures.value c.make-two.ensures.chart_after c.make-two.ensures.list_after;
-      first_value = c.make-one.ensures.value;
-      first_chart_after = c.make-one.ensures.chart_after;
-      first_list_after = c.make-one.ensures.list_after;
-      second_value = c.make-two.ensures.value;
-      second_chart_after = c.make-two.ensures.chart_after;
-      second_list_after = c.make-two.ensures.list_after;
+      demand3 = demand_3_of s t chart₁ list₁ chart₂ list₂ B D c.make.ensures.value c.make-2.ensures.value c.make.ensures.chart_after c.make-2.ensures.chart_after;
+      demand2 = demand_2_of s chart₁ list₁ B c.make.ensures.value c.make.ensures.chart_after c.make.ensures.list_after;
+      demand2_2 = demand_2_of t chart₂ list₂ D c.make-2.ensures.value c.make-2.ensures.chart_after c.make-2.ensures.list_after;
+      first_value = c.make.ensures.value;
+      first_chart_after = c.make.ensures.chart_after;
+      first_list_after = c.make.ensures.list_after;
+      second_value = c.make-2.ensures.value;
+      second_chart_after = c.make-2.ensures.chart_after;
+      second_list_after = c.make-2.ensures.list_after;
     }

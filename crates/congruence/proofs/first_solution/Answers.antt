@@ -11,39 +11,7 @@ loop-at-init c =
     let s = c.args in
     let m = c.requires.modulus_nonzero in
     let (b, h) = c.requires.difference_bound in
-    (omega arith, filling_begun s.modulus s.difference s.increments.now b h)
-
-pub offset_bounds-tails-at : goal.offset_bounds-tails-at
-offset_bounds-tails-at c =
-    let m = c.requires.modulus_nonzero in
-    let d = c.requires.difference_bound in
-    let (n, f) = c.requires.increments_len_bound in
-    let t = c.requires.tails in
-    omega arith
-
-pub bounds-tails-at : goal.bounds-tails-at
-bounds-tails-at c =
-    let m = c.requires.modulus_nonzero in
-    let d = c.requires.difference_bound in
-    let (n, f) = c.requires.increments_len_bound in
-    let t = c.requires.tails in
-    omega arith
-
-pub offset_bounds-tails-at-in-loop-at : goal.offset_bounds-tails-at-in-loop-at
-offset_bounds-tails-at-in-loop-at c =
-    let m = c.requires.modulus_nonzero in
-    let d = c.requires.difference_bound in
-    let (n, f) = c.requires.increments_len_bound in
-    let t = c.requires.tails in
-    omega arith
-
-pub bounds-tails-at-in-loop-at : goal.bounds-tails-at-in-loop-at
-bounds-tails-at-in-loop-at c =
-    let m = c.requires.modulus_nonzero in
-    let d = c.requires.difference_bound in
-    let (n, f) = c.requires.increments_len_bound in
-    let t = c.requires.tails in
-    omega arith
+    filling_begun s.modulus s.difference s.increments.now b h
 
 pub least_count-count-requires : goal.least_count-count-requires
 least_count-count-requires c =
@@ -55,17 +23,9 @@ least_count-count-requires c =
     let (some, most) = tail_small a t l.at (omega arith) (omega arith) in
     record {
       divisor_nonzero = (some, omega (arith, most, tail_falls a t l.at (omega arith) (omega arith)));
-      factor_bound = (t.small l.at (omega arith) (omega arith), l.invariant.1.left_small);
-      divisor = here_divides a b t (omega arith) l.invariant.1;
+      factor_bound = (t.small l.at (omega arith) (omega arith), l.invariant.left_small);
+      divisor = here_divides a b t (omega arith) l.invariant;
     }
-
-pub bounds-counts-at : goal.bounds-counts-at
-bounds-counts-at c =
-    let m = c.requires.modulus_nonzero in
-    let d = c.requires.difference_bound in
-    let (n, f) = c.requires.increments_len_bound in
-    let t = c.requires.tails in
-    omega arith
 
 pub overflow_mul-count : goal.overflow_mul-count
 overflow_mul-count c =
@@ -79,9 +39,6 @@ overflow_mul-count c =
     let small = f l.at (omega arith) in
     omega (arith, product_fits c.least_count-count.result (get_or s.increments.now l.at 0) (omega (arith, b, after, c.least_count-count.ensures.by_index, c.least_count-count.ensures.upper_bound)) (omega arith))
 
-pub nonzero_rem-count : goal.nonzero_rem-count
-nonzero_rem-count c = c.requires.modulus_nonzero.0
-
 pub minus-left-requires : goal.minus-left-requires
 minus-left-requires c =
     let l = c.loop-at in
@@ -90,7 +47,7 @@ minus-left-requires c =
     let (d, v) = c.requires.difference_bound in
     record {
       modulus_nonzero = m;
-      from_bound = (omega (arith, d, l.invariant.1.left_small), omega (arith, mod-lt (c.least_count-count.result * get_or s.increments.now l.at 0) m.0));
+      from_bound = (omega (arith, d, l.invariant.left_small), omega (arith, mod-lt (c.least_count-count.result * get_or s.increments.now l.at 0) m.0));
     }
 
 pub loop-at-preserved : goal.loop-at-preserved
@@ -100,9 +57,9 @@ loop-at-preserved c =
     let d = c.requires.difference_bound in
     let (n, f) = c.requires.increments_len_bound in
     let t = c.requires.tails in
-    let F = l.invariant.1 in
+    let F = l.invariant in
     let count = count_is a b t (omega arith) F c.least_count-count.ensures.by_index in
-    (omega arith, filling_next a b t (omega arith) F n count c.minus-left.ensures)
+    filling_next a b t (omega arith) F n count c.minus-left.ensures
 
 pub returns : goal.returns
 returns c =
@@ -110,4 +67,4 @@ returns c =
     let d = c.requires.difference_bound in
     let (n, f) = c.requires.increments_len_bound in
     let t = c.requires.tails in
-    filling_ended n (omega arith) c.loop-at.invariant.1
+    filling_ended n (omega arith) c.loop-at.invariant

@@ -1,10 +1,7 @@
 use mathlib.Core.Path.{◌≡◌}
-use Prim.Native.Nat.{ℕ, ◌-◌, ◌≤◌, ◌<◌}
+use Prim.Native.Nat.{ℕ, ◌<◌}
 use lib.ListN.{get_or}
 use Rattle.logs.proofs.first_difference.Given as goal
 
 abbrev pub invariant-loop-at : goal.invariant-loop-at
-invariant-loop-at l = (l.at ≤ l.both) × ((k : ℕ) → k < l.at → get_or l.first k 0 ≡ get_or l.second k 0)
-
-abbrev pub decreases-loop-at : goal.decreases-loop-at
-decreases-loop-at l = l.both - l.at
+invariant-loop-at l = (k : ℕ) → k < l.at → get_or l.first k 0 ≡ get_or l.second k 0

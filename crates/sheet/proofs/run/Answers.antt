@@ -1,47 +1,45 @@
-use mathlib.Core.Path.{sym, ◌∙◌}
-use native.Mathlib.Omega.{arith}
-use lib.ListN.{length}
+use Rattle.std.specs.Prelude.{length}
+use Rattle.std.proofs.Common.{sym, ◌∙◌}
+use Rattle.answer_rules.proofs.Stages.{handed_up}
 use Rattle.answer_rules.proofs.Walk.{run_done, run_refused}
 use Rattle.model.specs.Sheet.{sheet_reading}
 use Rattle.sheet_rules.specs.Decode.{decode}
-use Rattle.sheet_rules.proofs.Shape.{header_end}
 use Rattle.sheet_rules.proofs.Accepted.{stages}
-use Rattle.sheet.specs.Whole.{read_shape}
 use Rattle.sheet.specs.Walk.{run_passed}
 use Rattle.sheet_rules.specs.RunSheet.{sheet_ran, sheet_left}
 use Rattle.sheet.proofs.run.Goals as goal
 
-pub shape_of-requires-in_default : goal.shape_of-requires-in_default
-shape_of-requires-in_default c =
-    let a = c.args in
-    let p = run_passed a.s.now a.actions.now (length a.entries.now) (sym c.check_run-checked.ensures ∙ c.in_default.is) in
-    omega (arith, header_end a.s.now (stages a.s.now p.0).shape)
+pub returns-in_err-check_run-clause-value : goal.returns-in_err-check_run-clause-value
+unfolding sheet_ran
+returns-in_err-check_run-clause-value c =
+    handed_up c.from_residual.ensures
+    ∙ (run_refused (sheet_reading (decode c.args.s.now) c.args.actions.now) c.args.entries.now (sym c.check_run.ensures ∙ c.in_err-check_run.was)).0
 
-pub walk-requires : goal.walk-requires
-walk-requires c =
-    let a = c.args in
-    let p = run_passed a.s.now a.actions.now (length a.entries.now) (sym c.check_run-checked.ensures ∙ c.in_default.is) in
-    record {
-      read = read_shape a.s.now c.shape_of.ensures (stages a.s.now p.0).shape;
-      s_value = p.0;
-      by_index = p.1.actions;
-      actions_in_bounds = p.1.fits;
-    }
+pub returns-in_err-check_run-clause-entries_after : goal.returns-in_err-check_run-clause-entries_after
+unfolding sheet_left
+returns-in_err-check_run-clause-entries_after c =
+    (run_refused (sheet_reading (decode c.args.s.now) c.args.actions.now) c.args.entries.now (sym c.check_run.ensures ∙ c.in_err-check_run.was)).1
 
-pub returns-in_default : goal.returns-in_default
-unfolding sheet_ran sheet_left
-returns-in_default c =
-    let a = c.args in
-    record {
-      value = (run_done (sheet_reading (decode a.s.now) a.actions.now) a.entries.now (sym c.check_run-checked.ensures ∙ c.in_default.is) c.walk.ensures.value c.walk.ensures.entries_after).0;
-      entries_after = (run_done (sheet_reading (decode a.s.now) a.actions.now) a.entries.now (sym c.check_run-checked.ensures ∙ c.in_default.is) c.walk.ensures.value c.walk.ensures.entries_after).1;
-    }
+pub over-requires : goal.over-requires
+over-requires c =
+    let p = run_passed c.args.s.now c.args.actions.now (length c.args.entries.now) (sym c.check_run.ensures ∙ c.in_ok-check_run.was) in
+    (stages c.args.s.now p.0).shape
 
-pub returns : goal.returns
-unfolding sheet_ran sheet_left
-returns c =
-    let a = c.args in
-    record {
-      value = (run_refused (sheet_reading (decode a.s.now) a.actions.now) a.entries.now (sym c.check_run-checked.ensures ∙ c.in-Refused.is)).0;
-      entries_after = (run_refused (sheet_reading (decode a.s.now) a.actions.now) a.entries.now (sym c.check_run-checked.ensures ∙ c.in-Refused.is)).1;
-    }
+pub walk-requires-clause-s_value : goal.walk-requires-clause-s_value
+walk-requires-clause-s_value c = rw c.over.ensures (run_passed c.args.s.now c.args.actions.now (length c.args.entries.now) (sym c.check_run.ensures ∙ c.in_ok-check_run.was)).0
+
+pub walk-requires-clause-by_index : goal.walk-requires-clause-by_index
+walk-requires-clause-by_index c = rw c.over.ensures (run_passed c.args.s.now c.args.actions.now (length c.args.entries.now) (sym c.check_run.ensures ∙ c.in_ok-check_run.was)).1.actions
+
+pub walk-requires-clause-actions_in_bounds : goal.walk-requires-clause-actions_in_bounds
+walk-requires-clause-actions_in_bounds c = (run_passed c.args.s.now c.args.actions.now (length c.args.entries.now) (sym c.check_run.ensures ∙ c.in_ok-check_run.was)).1.fits
+
+pub returns-clause-value : goal.returns-clause-value
+unfolding sheet_ran
+returns-clause-value c =
+    (run_done (sheet_reading (decode c.args.s.now) c.args.actions.now) c.args.entries.now (sym c.check_run.ensures ∙ c.in_ok-check_run.was) (rw c.over.ensures at c.walk.ensures.value) (rw c.over.ensures at c.walk.ensures.entries_after)).0
+
+pub returns-clause-entries_after : goal.returns-clause-entries_after
+unfolding sheet_left
+returns-clause-entries_after c =
+    (run_done (sheet_reading (decode c.args.s.now) c.args.actions.now) c.args.entries.now (sym c.check_run.ensures ∙ c.in_ok-check_run.was) (rw c.over.ensures at c.walk.ensures.value) (rw c.over.ensures at c.walk.ensures.entries_after)).1

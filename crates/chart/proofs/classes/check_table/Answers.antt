@@ -1,39 +1,31 @@
-use mathlib.Core.Path.{sym}
+use mathlib.Core.Path.{◌∙◌}
 use native.Mathlib.Omega.{arith}
-use Rattle.answer_rules.proofs.Stages.{each_none, each_more, each_first}
-use Rattle.answer_rules.proofs.Loops.{each_ended}
+use Rattle.answer_rules.proofs.Stages.{each_none, loop_stop, loop_more, loop_end, handed_up, demand_for}
 use Rattle.model.specs.Chart.{blocks_of}
 use Rattle.chart_bytes.specs.Classes.{entry}
 use Rattle.chart.specs.Check.{class_check}
-use Rattle.chart.specs.Apart.{class_own, class_shared}
+use Rattle.chart.specs.Apart.{class_tested}
 use Rattle.chart.proofs.classes.check_table.Goals as goal
 
 pub loop-j-init : goal.loop-j-init
-loop-j-init c =
-    let s = c.args in
-    (omega arith, each_none (class_check s.c.now (entry s.f.now)))
+loop-j-init c = each_none (class_check c.args.c.now (entry c.args.f.now))
 
-pub bounds-f-j : goal.bounds-f-j
-bounds-f-j c = omega arith
-
-pub overflow_cast-least : goal.overflow_cast-least
-overflow_cast-least c = omega (arith, c.type_inv.f c.loop-j.j)
-
-pub returns-then-least-j : goal.returns-then-least-j
-returns-then-least-j c =
+pub returns-in_err-demanded : goal.returns-in_err-demanded
+returns-in_err-demanded c =
     let s = c.args in
     let l = c.loop-j in
-    let f = class_check s.c.now (entry s.f.now) in
-    sym (each_first f l.j (blocks_of s.c.now) l.invariant.1 (class_shared s.c.now (entry s.f.now) l.j c.if-least-j.true c.record_at.ensures) (omega arith))
+    handed_up c.from_residual.ensures
+    ∙ loop_stop (class_check s.c.now (entry s.f.now)) l.j (blocks_of s.c.now) l.invariant
+    (class_tested s.c.now (entry s.f.now) l.j c.record_at.ensures.value (demand_for _ c.demanded.ensures c.at.ensures)) c.in_err-demanded.was (omega arith)
 
 pub loop-j-preserved : goal.loop-j-preserved
 loop-j-preserved c =
     let s = c.args in
     let l = c.loop-j in
-    (omega arith, each_more (class_check s.c.now (entry s.f.now)) l.j l.invariant.1 (class_own s.c.now (entry s.f.now) l.j c.if-least-j.false))
+    loop_more (class_check s.c.now (entry s.f.now)) l.j l.invariant
+    (class_tested s.c.now (entry s.f.now) l.j c.record_at.ensures.value (demand_for _ c.demanded.ensures c.at.ensures)) c.in_ok-demanded.was
 
 pub returns : goal.returns
 returns c =
     let s = c.args in
-    let l = c.loop-j in
-    each_ended (class_check s.c.now (entry s.f.now)) l.j (blocks_of s.c.now) l.invariant.1 (omega arith) (omega arith)
+    loop_end (class_check s.c.now (entry s.f.now)) c.loop-j.j (blocks_of s.c.now) c.loop-j.invariant (omega arith) (omega arith)

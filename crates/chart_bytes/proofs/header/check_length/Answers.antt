@@ -1,5 +1,8 @@
 use native.Mathlib.Omega.{arith}
-use Rattle.chart_bytes.specs.HeaderLaws.{length_good, length_bad, length_small}
+use Rattle.answer_rules.proofs.Stages.{demand_for}
+use Rattle.model.specs.Chart.{record_at}
+use Rattle.chart_bytes.specs.Header.{length_check}
+use Rattle.chart_bytes.specs.HeaderLaws.{length_small}
 use Rattle.chart_bytes.proofs.header.check_length.Goals as goal
 
 pub overflow_mul-blocks : goal.overflow_mul-blocks
@@ -8,8 +11,6 @@ overflow_mul-blocks c = omega (arith, length_small c.args.c.now c.requires)
 pub overflow_add-blocks : goal.overflow_add-blocks
 overflow_add-blocks c = omega (arith, length_small c.args.c.now c.requires)
 
-pub returns-then-c-blocks : goal.returns-then-c-blocks
-returns-then-c-blocks c = length_good c.args.c.now c.if-c-blocks.true
-
-pub returns-else-c-blocks : goal.returns-else-c-blocks
-returns-else-c-blocks c = length_bad c.args.c.now c.if-c-blocks.false
+pub returns : goal.returns
+unfolding length_check record_at
+returns c = demand_for _ c.demanded.ensures c.at.ensures

@@ -10,7 +10,7 @@ use Rattle.chart_form.proofs.bars.same_bars.Goals as goal
 pub loop-a-init : goal.loop-a-init
 loop-a-init c =
     let s = c.args in
-    (omega arith, all_none (λ a. same_bar (target_of s.c.now s.i a) (target_of s.c.now s.j a)))
+    all_none (λ a. same_bar (target_of s.c.now s.i a) (target_of s.c.now s.j a))
 
 pub returns-then-not-same_bar : goal.returns-then-not-same_bar
 unfolding same_bars
@@ -25,11 +25,11 @@ loop-a-preserved c =
     let s = c.args in
     let l = c.loop-a in
     let e = bar_at s.c.now s.i s.j l.a c.target_of.result c.target_of-in-loop-a.result c.target_of.ensures.0 c.target_of-in-loop-a.ensures.0 c.same_bar.ensures in
-    (omega arith, all_more (λ a. same_bar (target_of s.c.now s.i a) (target_of s.c.now s.j a)) l.a l.invariant.1 (e ∙ not-false c.same_bar.result c.if-not-same_bar.false-raw))
+    all_more (λ a. same_bar (target_of s.c.now s.i a) (target_of s.c.now s.j a)) l.a l.invariant (e ∙ not-false c.same_bar.result c.if-not-same_bar.false-raw)
 
 pub returns : goal.returns
 unfolding same_bars
 returns c =
     let s = c.args in
     let l = c.loop-a in
-    all_ended (λ a. same_bar (target_of s.c.now s.i a) (target_of s.c.now s.j a)) l.a (actions_of s.c.now) l.invariant.1 (omega arith) (omega arith)
+    all_ended (λ a. same_bar (target_of s.c.now s.i a) (target_of s.c.now s.j a)) l.a (actions_of s.c.now) l.invariant (omega arith) (omega arith)

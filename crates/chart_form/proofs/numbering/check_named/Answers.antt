@@ -1,17 +1,15 @@
-use Rattle.chart_form.specs.Records.{record_first, record_named, record_unnamed}
+use Rattle.std.proofs.Common.{ltb, eq-eqb, ne_eqb}
+use Rattle.answer_rules.proofs.Stages.{demand_for}
+use Rattle.chart_form.specs.Records.{first_holds, second_made, record_tested}
+use Rattle.chart_form.proofs.numbering.check_named.Goals.{then-i-eq0, else-i-eq0}
 use Rattle.chart_form.proofs.numbering.check_named.Goals as goal
-
-pub returns-then-i-eq0 : goal.returns-then-i-eq0
-returns-then-i-eq0 c =
-    let s = c.args in
-    record_first s.c.now s.i s.next c.if-i-eq0.true
-
-pub returns-then-i-next : goal.returns-then-i-next
-returns-then-i-next c =
-    let s = c.args in
-    record_named s.c.now s.i s.next c.if-i-next.true
 
 pub returns : goal.returns
 returns c =
     let s = c.args in
-    record_unnamed s.c.now s.i s.next c.if-i-eq0.false c.if-i-next.false c.record_at.ensures
+    record_tested s.c.now s.i s.next c.record_at.ensures.value
+    (elim c.if-i-eq0.branch [
+      | then-i-eq0 w ↦ first_holds (ltb s.i s.next) (eq-eqb s.i 0 w.if-i-eq0.true) w.demanded-is
+      | else-i-eq0 w ↦ second_made (ne_eqb s.i 0 w.if-i-eq0.false) w.demanded-is
+    ])
+    (demand_for _ c.demanded.ensures c.at.ensures)

@@ -1,3 +1,4 @@
+use mathlib.Core.Path.{◌∙◌}
 use mir.Syntax.{w64}
 use mir.Val.{SFits}
 use mir.ValLaws.{to_z-of_z}
@@ -20,4 +21,4 @@ returns-else-r-x c =
     let fx = c.ranges.x in
     let fl : SFits w64 r.low = search rules in
     let e = simp (to_z-of_z w64) at c.if-r-x.false in
-    contains_no r c.args.x e
+    simp (to_z-of_z w64) (e ∙ contains_no r c.args.x e)

@@ -34,9 +34,6 @@ loop-z-preserved c =
     let l = c.loop-z in
     (omega arith, merging_more c.moved.result l.invariant.1 (omega (arith, l.invariant.1.same_length)) c.moved.ensures)
 
-pub shape_of-classes : goal.shape_of-classes
-shape_of-classes c = c.loop-z.invariant.1.same_length
-
 pub returns : goal.returns
 returns c =
     let l = c.loop-z in

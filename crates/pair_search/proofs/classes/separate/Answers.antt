@@ -24,9 +24,6 @@ loop-z-preserved c =
       store_next l.classes l.z l.z (λ k. k) (omega arith) refl l.invariant.2,
     )
 
-pub shape_of-classes : goal.shape_of-classes
-shape_of-classes c = c.loop-z.invariant.1
-
 pub returns : goal.returns
 returns c =
     let l = c.loop-z in

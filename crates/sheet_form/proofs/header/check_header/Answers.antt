@@ -1,19 +1,30 @@
-use mathlib.Core.Path.{ap, ◌∙◌}
-use borrow.Author.Tests.{not-true, not-false}
-use Rattle.answer_rules.proofs.Stages.{demand_by}
+use Rattle.std.specs.Prelude.{◌≤◌, length}
+use Rattle.std.proofs.Common.{sym, ap, ◌∙◌, leb-true}
+use native.Mathlib.Omega.{arith}
+use Rattle.answer_rules.specs.declared.Reason.TheVariants.{Header}
+use Rattle.answer_rules.specs.Refusal.{at}
+use Rattle.answer_rules.proofs.Stages.{stop, go_on, handed_up, demand_for, demand_by, demand_fine}
 use Rattle.sheet_rules.specs.Layout.{version_of}
 use Rattle.sheet_rules.specs.Form.{from_to}
-use Rattle.sheet_form.specs.Header.{header_short, header_unmarked, header_marked}
+use Rattle.sheet_form.specs.Header.{header_stages}
 use Rattle.sheet_form.proofs.header.check_header.Goals as goal
 
-pub returns-then-s-lt9 : goal.returns-then-s-lt9
-returns-then-s-lt9 c = header_short c.args.s.now c.if-s-lt9.true
+pub returns-in_err-demanded : goal.returns-in_err-demanded
+returns-in_err-demanded c = header_stages c.args.s.now (handed_up c.from_residual.ensures ∙ stop _ (demand_for _ c.demanded.ensures c.at-refusal.ensures) c.in_err-demanded.was)
 
-pub returns-then-not-has_mark : goal.returns-then-not-has_mark
-returns-then-not-has_mark c = header_unmarked c.args.s.now c.if-s-lt9.false c.has_mark.ensures (not-true c.has_mark.result c.if-not-has_mark.true-raw)
+pub has_mark-requires : goal.has_mark-requires
+has_mark-requires c = leb-true 9 (length c.args.s.now) (demand_fine _ _ (sym c.demanded.ensures ∙ c.in_ok-demanded.was))
+
+pub returns-in_err-demanded-2 : goal.returns-in_err-demanded-2
+returns-in_err-demanded-2 c =
+    header_stages c.args.s.now (handed_up c.from_residual-in_err-demanded-2.ensures ∙ go_on (demand_for _ c.demanded.ensures c.at-refusal.ensures) c.in_ok-demanded.was (stop _ (demand_by (at Header 0) (demand_for _ c.demanded-2.ensures c.at-refusal.ensures) c.has_mark.ensures) c.in_err-demanded-2.was))
+
+pub unsigned16-requires : goal.unsigned16-requires
+unsigned16-requires c =
+    let h : 9 ≤ length c.args.s.now = leb-true 9 (length c.args.s.now) (demand_fine _ _ (sym c.demanded.ensures ∙ c.in_ok-demanded.was)) in
+    omega arith
 
 pub returns : goal.returns
 unfolding version_of
 returns c =
-    header_marked c.args.s.now c.if-s-lt9.false c.has_mark.ensures (not-false c.has_mark.result c.if-not-has_mark.false-raw)
-    (demand_by 1 0 c.demanded.ensures (c.from_to.ensures ∙ ap (from_to 1 2) c.unsigned16.ensures))
+    header_stages c.args.s.now (go_on (demand_for _ c.demanded.ensures c.at-refusal.ensures) c.in_ok-demanded.was (go_on (demand_by (at Header 0) (demand_for _ c.demanded-2.ensures c.at-refusal.ensures) c.has_mark.ensures) c.in_ok-demanded-2.was (demand_by (at Header 0) (demand_for _ c.demanded-3.ensures c.at-refusal.ensures) (c.from_to.ensures ∙ ap (from_to 1 2) c.unsigned16.ensures))))

@@ -13,43 +13,43 @@ pub bounds-part-0 : goal.bounds-part-0
 bounds-part-0 c = omega (arith, move_some c.args.counters (length c.args.part.now) c.requires.counters_bound.1)
 
 pub slice_bounds-check_zero_rule-count : goal.slice_bounds-check_zero_rule-count
-slice_bounds-check_zero_rule-count c = omega (arith, rule_within c.args.counters c.args.v (length c.args.part.now) c.requires.at_bound.1 c.requires.counters_bound.1)
+slice_bounds-check_zero_rule-count c = omega (arith, rule_within c.args.counters c.args.v (length c.args.part.now) c.requires.place_bound.1 c.requires.counters_bound.1)
 
 pub slice_bounds-check_zero_rule-start : goal.slice_bounds-check_zero_rule-start
-slice_bounds-check_zero_rule-start c = omega (arith, rule_within c.args.counters c.args.v (length c.args.part.now) c.requires.at_bound.1 c.requires.counters_bound.1)
+slice_bounds-check_zero_rule-start c = omega (arith, rule_within c.args.counters c.args.v (length c.args.part.now) c.requires.place_bound.1 c.requires.counters_bound.1)
 
 pub check_zero_rule-requires : goal.check_zero_rule-requires
 check_zero_rule-requires c =
     record {
-      in_bounds = length_rest (2 + 7 * c.args.v) 7 c.args.part.now (rule_within c.args.counters c.args.v (length c.args.part.now) c.requires.at_bound.1 c.requires.counters_bound.1);
-      at_bound = omega (arith, c.requires.counters_bound.0, c.requires.at_bound.0, c.requires.at_bound.1);
+      in_bounds = length_rest (2 + 7 * c.args.v) 7 c.args.part.now (rule_within c.args.counters c.args.v (length c.args.part.now) c.requires.place_bound.1 c.requires.counters_bound.1);
+      place_bound = omega (arith, c.requires.counters_bound.0, c.requires.place_bound.0, c.requires.place_bound.1);
     }
 
 pub returns-then-part-eq0 : goal.returns-then-part-eq0
 unfolding rule_place
 returns-then-part-eq0 c =
-    let place = 2 + 7 * c.args.v in
+    let rule = 2 + 7 * c.args.v in
     c.check_zero_rule.ensures
-    ∙ ap (λ (l : List ℕ). check_zero_rule l (c.args.at + place)) (rest place c.args.part.now)
-    ∙ one_zero c.args.counters c.args.most c.args.part.now c.args.at c.args.v c.if-part-eq0.true
+    ∙ ap (λ (l : List ℕ). check_zero_rule l (c.args.place + rule)) (rest rule c.args.part.now)
+    ∙ one_zero c.args.counters c.args.most c.args.part.now c.args.place c.args.v c.if-part-eq0.true
 
 pub slice_bounds-check_rule-count : goal.slice_bounds-check_rule-count
-slice_bounds-check_rule-count c = omega (arith, rule_within c.args.counters c.args.v (length c.args.part.now) c.requires.at_bound.1 c.requires.counters_bound.1)
+slice_bounds-check_rule-count c = omega (arith, rule_within c.args.counters c.args.v (length c.args.part.now) c.requires.place_bound.1 c.requires.counters_bound.1)
 
 pub slice_bounds-check_rule-start : goal.slice_bounds-check_rule-start
-slice_bounds-check_rule-start c = omega (arith, rule_within c.args.counters c.args.v (length c.args.part.now) c.requires.at_bound.1 c.requires.counters_bound.1)
+slice_bounds-check_rule-start c = omega (arith, rule_within c.args.counters c.args.v (length c.args.part.now) c.requires.place_bound.1 c.requires.counters_bound.1)
 
 pub check_rule-requires : goal.check_rule-requires
 check_rule-requires c =
     record {
-      in_bounds = length_rest (2 + 7 * c.args.v) 7 c.args.part.now (rule_within c.args.counters c.args.v (length c.args.part.now) c.requires.at_bound.1 c.requires.counters_bound.1);
-      at_bound = omega (arith, c.requires.counters_bound.0, c.requires.at_bound.0, c.requires.at_bound.1);
+      in_bounds = length_rest (2 + 7 * c.args.v) 7 c.args.part.now (rule_within c.args.counters c.args.v (length c.args.part.now) c.requires.place_bound.1 c.requires.counters_bound.1);
+      place_bound = omega (arith, c.requires.counters_bound.0, c.requires.place_bound.0, c.requires.place_bound.1);
     }
 
-pub returns : goal.returns
+pub returns-else-part-eq0 : goal.returns-else-part-eq0
 unfolding rule_place
-returns c =
-    let place = 2 + 7 * c.args.v in
+returns-else-part-eq0 c =
+    let rule = 2 + 7 * c.args.v in
     c.check_rule.ensures
-    ∙ ap (λ (l : List ℕ). check_rule c.args.counters c.args.most l (c.args.at + place)) (rest place c.args.part.now)
-    ∙ one_open c.args.counters c.args.most c.args.part.now c.args.at c.args.v c.if-part-eq0.false
+    ∙ ap (λ (l : List ℕ). check_rule c.args.counters c.args.most l (c.args.place + rule)) (rest rule c.args.part.now)
+    ∙ one_open c.args.counters c.args.most c.args.part.now c.args.place c.args.v c.if-part-eq0.false

@@ -1,35 +1,41 @@
 use mir.Syntax.{w64}
 use mir.Val.{SFits}
 use mir.ValLaws.{to_z-of_z}
-use Rattle.answer_rules.proofs.Stages.{stop, go_on, demand_by}
+use Rattle.std.proofs.Common.{rules}
+use Rattle.std.proofs.Common.{◌∙◌}
+use Rattle.answer_rules.proofs.Stages.{stop, go_on, handed_up, demand_for, demand_by}
+use Rattle.answer_rules.specs.declared.Reason.TheVariants.{Field}
+use Rattle.answer_rules.specs.Refusal.{at}
 use Rattle.sheet_rules.specs.Form.{check_rule}
 use Rattle.sheet_form.specs.Limits.{source_right, factor_right, offset_read}
-use Rattle.std.proofs.Common.{rules}
 use Rattle.sheet_form.proofs.limits.check_rule.Goals as goal
 
-pub returns-in_default : goal.returns-in_default
+pub returns-in_err-demanded : goal.returns-in_err-demanded
 unfolding check_rule source_right factor_right
-returns-in_default c = stop _ c.demanded-kind.ensures c.in_default.is
+returns-in_err-demanded c =
+    handed_up c.from_residual.ensures
+    ∙ stop _ (demand_for _ c.demanded.ensures c.at.ensures) c.in_err-demanded.was
 
-pub returns-in_default-source : goal.returns-in_default-source
+pub returns-in_err-demanded-2 : goal.returns-in_err-demanded-2
 unfolding check_rule source_right factor_right
-returns-in_default-source c =
-    let at = c.args.at in
-    go_on c.demanded-kind.ensures c.in-Fine.is
-    (stop _ (demand_by 4 _ c.demanded-source.ensures c.source_right.ensures) c.in_default-source.is)
+returns-in_err-demanded-2 c =
+    handed_up c.from_residual-in_err-demanded-2.ensures
+    ∙ go_on (demand_for _ c.demanded.ensures c.at.ensures) c.in_ok-demanded.was
+    (stop _ (demand_by (at Field _) (demand_for _ c.demanded-2.ensures c.at-2.ensures) c.source_right.ensures) c.in_err-demanded-2.was)
 
-pub returns-in_default-factor : goal.returns-in_default-factor
+pub returns-in_err-demanded-3 : goal.returns-in_err-demanded-3
 unfolding check_rule source_right factor_right
-returns-in_default-factor c =
-    go_on c.demanded-kind.ensures c.in-Fine.is
-    (go_on (demand_by 4 _ c.demanded-source.ensures c.source_right.ensures) c.in-Fine-source.is
-    (stop _ (demand_by 4 _ c.demanded-factor.ensures c.factor_right.ensures) c.in_default-factor.is))
+returns-in_err-demanded-3 c =
+    handed_up c.from_residual-in_err-demanded-3.ensures
+    ∙ go_on (demand_for _ c.demanded.ensures c.at.ensures) c.in_ok-demanded.was
+    (go_on (demand_by (at Field _) (demand_for _ c.demanded-2.ensures c.at-2.ensures) c.source_right.ensures) c.in_ok-demanded-2.was
+    (stop _ (demand_by (at Field _) (demand_for _ c.demanded-3.ensures c.at-3.ensures) c.factor_right.ensures) c.in_err-demanded-3.was))
 
 pub returns : goal.returns
 unfolding check_rule source_right factor_right
 returns c =
     let f : SFits w64 c.signed32.result = search rules in
-    go_on c.demanded-kind.ensures c.in-Fine.is
-    (go_on (demand_by 4 _ c.demanded-source.ensures c.source_right.ensures) c.in-Fine-source.is
-    (go_on (demand_by 4 _ c.demanded-factor.ensures c.factor_right.ensures) c.in-Fine-factor.is
-    (demand_by 4 _ c.demanded.ensures (offset_read c.args.part.now c.args.most (simp (to_z-of_z w64) at c.near_zero.ensures) c.signed32.ensures))))
+    go_on (demand_for _ c.demanded.ensures c.at.ensures) c.in_ok-demanded.was
+    (go_on (demand_by (at Field _) (demand_for _ c.demanded-2.ensures c.at-2.ensures) c.source_right.ensures) c.in_ok-demanded-2.was
+    (go_on (demand_by (at Field _) (demand_for _ c.demanded-3.ensures c.at-3.ensures) c.factor_right.ensures) c.in_ok-demanded-3.was
+    (demand_by (at Field _) (demand_for _ c.demanded-4.ensures c.at-4.ensures) (offset_read c.args.part.now c.args.most (simp (to_z-of_z w64) at c.near_zero.ensures) c.signed32.ensures))))

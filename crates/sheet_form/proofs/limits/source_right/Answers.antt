@@ -1,9 +1,5 @@
-use native.Mathlib.Omega.{arith}
 use Rattle.sheet_form.specs.Limits.{source_set, source_carry}
 use Rattle.sheet_form.proofs.limits.source_right.Goals as goal
-
-pub overflow_cast-source : goal.overflow_cast-source
-overflow_cast-source c = omega (arith, c.type_inv.part 1)
 
 pub returns-then-part-eq0 : goal.returns-then-part-eq0
 returns-then-part-eq0 c = source_set c.args.counters c.args.part.now c.if-part-eq0.true

@@ -13,7 +13,7 @@ use Rattle.sheet_regions.specs.Shares.{none_taken, all_taken, taken, taken_more}
 use Rattle.sheet_regions.proofs.landing.uncovered.Goals as goal
 
 pub volume_of-left-requires : goal.volume_of-left-requires
-volume_of-left-requires c = tight_three c.requires.countable.ranges
+volume_of-left-requires c = tight_three c.requires.ranges
 
 pub loop-j-init : goal.loop-j-init
 loop-j-init c =
@@ -21,12 +21,12 @@ loop-j-init c =
     (omega arith, none_taken (λ j. share_three args.b args.m (box_three args.s.now j)) c.volume_of-left.result (volume (all_three args.b)) c.volume_of-left.ensures)
 
 pub box_at-requires : goal.box_at-requires
-box_at-requires c = record { read = c.requires.read; i_lt_regions = c.loop-j-test.true }
+box_at-requires c = omega (arith, c.loop-j-test.true, c.shape-j-end.ensures.read.regions_are)
 
 pub share_of-left-requires : goal.share_of-left-requires
 share_of-left-requires c =
-    let given = c.requires.countable in
-    let w = given.boxes c.loop-j.j (omega (arith, c.loop-j-test.true, c.requires.read.regions_are)) in
+    let given = c.requires in
+    let w = given.boxes c.loop-j.j (omega (arith, c.loop-j-test.true, c.shape-j-end.ensures.read.regions_are)) in
     record {
       ranges_within = given.ranges;
       rules_fit = given.rules;
@@ -40,8 +40,8 @@ overflow_sub-left c =
     let at = c.loop-j in
     let x = c.share_of-left.result in
     let e = c.share_of-left.ensures ∙ ap (λ (w : RegionBox). share_three args.b args.m w) c.box_at.ensures in
-    let h : at.j < regions_of s = omega (arith, c.loop-j-test.true, c.requires.read.regions_are) in
-    let l = taken (λ j. share_three args.b args.m (box_three s j)) at.j (regions_of s) at.left x (volume (all_three args.b)) h e at.invariant.1 c.requires.countable.enough in
+    let h : at.j < regions_of s = omega (arith, c.loop-j-test.true, c.shape-j-end.ensures.read.regions_are) in
+    let l = taken (λ j. share_three args.b args.m (box_three s j)) at.j (regions_of s) at.left x (volume (all_three args.b)) h e at.invariant.1 c.requires.enough in
     l
 
 pub overflow_step-j : goal.overflow_step-j
@@ -57,8 +57,8 @@ loop-j-preserved c =
     let at = c.loop-j in
     let x = c.share_of-left.result in
     let e = c.share_of-left.ensures ∙ ap (λ (w : RegionBox). share_three args.b args.m w) c.box_at.ensures in
-    let h : at.j < regions_of s = omega (arith, c.loop-j-test.true, c.requires.read.regions_are) in
-    let l = taken (λ j. share_three args.b args.m (box_three s j)) at.j (regions_of s) at.left x (volume (all_three args.b)) h e at.invariant.1 c.requires.countable.enough in (
+    let h : at.j < regions_of s = omega (arith, c.loop-j-test.true, c.shape-j-end.ensures.read.regions_are) in
+    let l = taken (λ j. share_three args.b args.m (box_three s j)) at.j (regions_of s) at.left x (volume (all_three args.b)) h e at.invariant.1 c.requires.enough in (
       omega arith,
       taken_more (λ j. share_three args.b args.m (box_three s j)) at.j at.left x (volume (all_three args.b)) (at.left - x) e at.invariant.1 (omega arith),
     )
@@ -68,5 +68,5 @@ returns c =
     let args = c.args in
     let s = args.s.now in
     let at = c.loop-j in
-    let e : at.j ≡ regions_of s = omega (arith, c.loop-j-test.false, c.requires.read.regions_are, at.invariant.0) in
+    let e : at.j ≡ regions_of s = omega (arith, c.loop-j-test.false, c.shape-j-end.ensures.read.regions_are, at.invariant.0) in
     all_taken (λ j. share_three args.b args.m (box_three s j)) at.j (regions_of s) at.left (volume (all_three args.b)) e at.invariant.1

@@ -1,9 +1,5 @@
-use Prim.Native.Nat.{◌-◌, ◌≤◌}
 use Rattle.table_rules.specs.Depths.{Levelled}
 use Rattle.table_rows.proofs.depths.level.Given as goal
 
 abbrev pub invariant-loop-k : goal.invariant-loop-k
-invariant-loop-k l = (l.k ≤ l.n) × Levelled l.initial.bounds l.bounds l.n l.depth
-
-abbrev pub decreases-loop-k : goal.decreases-loop-k
-decreases-loop-k l = l.n - l.k
+invariant-loop-k l = Levelled l.initial.bounds l.bounds l.n l.depth

@@ -1,5 +1,4 @@
 use native.Mathlib.Omega.{arith}
-use Prim.Native.Nat.{◌+◌, ◌*◌}
 use Rattle.table_rules.proofs.Depths.{below_more}
 use Rattle.table_rows.proofs.depths.reached_depth.Goals as goal
 
@@ -14,14 +13,6 @@ overflow_add-t c = omega arith
 
 pub bounds-targets-a : goal.bounds-targets-a
 bounds-targets-a c = omega arith
-
-pub overflow_cast-t : goal.overflow_cast-t
-overflow_cast-t c =
-    let start = c.args in
-    omega (arith, c.type_inv.targets (255 * c.loop-a.a + start.i))
-
-pub shallower-low-requires : goal.shallower-low-requires
-shallower-low-requires c = record { bounds_room = c.requires.bounds_room; t_bound = omega (arith, c.type_inv.targets (255 * c.loop-a.a + c.args.i)) }
 
 pub overflow_step-a : goal.overflow_step-a
 overflow_step-a c = omega arith

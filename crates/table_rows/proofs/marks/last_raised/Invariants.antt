@@ -1,9 +1,5 @@
-use Prim.Native.Nat.{◌≤◌}
 use Rattle.table_rules.specs.Marks.{DownFrom}
 use Rattle.table_rows.proofs.marks.last_raised.Given as goal
 
 abbrev pub invariant-loop-k : goal.invariant-loop-k
-invariant-loop-k l = (l.k ≤ l.n) × DownFrom l.flags l.actions l.k l.n
-
-abbrev pub decreases-loop-k : goal.decreases-loop-k
-decreases-loop-k l = l.k
+invariant-loop-k l = DownFrom l.flags l.actions l.k l.n

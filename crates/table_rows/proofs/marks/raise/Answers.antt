@@ -19,7 +19,7 @@ pub overflow_sub-n : goal.overflow_sub-n
 overflow_sub-n c = omega arith
 
 pub raise_at-requires : goal.raise_at-requires
-raise_at-requires c = record { n_in_bounds = omega (arith, c.loop-b.invariant.1.same_length); n_in_bounds_2 = omega (arith, c.loop-b.invariant.1.same_length) }
+raise_at-requires c = omega arith
 
 pub overflow_step-b : goal.overflow_step-b
 overflow_step-b c = omega arith
@@ -31,9 +31,6 @@ pub loop-b-preserved : goal.loop-b-preserved
 loop-b-preserved c =
     let at = c.loop-b in
     (omega arith, raised_more at.b (omega arith) (omega arith) at.invariant.1 c.raise_at.ensures)
-
-pub shape_of-flags : goal.shape_of-flags
-shape_of-flags c = c.loop-b.invariant.1.same_length
 
 pub returns : goal.returns
 returns c =

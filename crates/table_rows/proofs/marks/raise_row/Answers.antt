@@ -25,10 +25,7 @@ loop-b-smaller c = omega arith
 pub loop-b-preserved : goal.loop-b-preserved
 loop-b-preserved c =
     let at = c.loop-b in
-    (omega arith, row_more at.b c.requires.flags_room c.requires.k_bound (omega arith) at.invariant.1)
-
-pub shape_of-flags : goal.shape_of-flags
-shape_of-flags c = c.loop-b.invariant.1.same_length
+    (omega arith, row_more at.b (omega arith) c.requires.k_bound (omega arith) at.invariant.1)
 
 pub returns : goal.returns
 returns c = row_all (omega arith) c.loop-b.invariant.1

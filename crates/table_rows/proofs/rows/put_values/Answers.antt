@@ -2,16 +2,15 @@ use mir.Syntax.{w64}
 use mir.Val.{SFits}
 use mir.ValLaws.{to_z-of_z}
 use native.Mathlib.Omega.{arith}
-use lib.ListN.{length-set}
 use Rattle.table_rules.proofs.Arrays.{values_write}
 use Rattle.std.proofs.Common.{rules}
 use Rattle.table_rows.proofs.rows.put_values.Goals as goal
 
 pub bounds-cells-at-2 : goal.bounds-cells-at-2
-bounds-cells-at-2 c = simp length-set (omega arith)
+bounds-cells-at-2 c = omega arith
 
 pub bounds-cells-at-3 : goal.bounds-cells-at-3
-bounds-cells-at-3 c = simp length-set (omega arith)
+bounds-cells-at-3 c = omega arith
 
 pub returns : goal.returns
 returns c =

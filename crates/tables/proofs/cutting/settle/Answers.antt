@@ -1,8 +1,6 @@
 use native.Mathlib.Omega.{arith}
-use Prim.Native.Nat.{◌+◌, ◌*◌}
-use mathlib.Core.Path.{refl, ◌∙◌}
+use mathlib.Core.Path.{refl}
 use borrow.Author.Tests.{not-true, not-false}
-use lib.ListN.{length-set}
 use Rattle.table_rules.proofs.Marks.{raised_nobody}
 use Rattle.table_rules.proofs.Sources.{noting}
 use Rattle.table_rules.specs.Cutting.{settled_same}
@@ -12,7 +10,6 @@ use Rattle.tables.proofs.cutting.settle.Goals as goal
 pub cut_row-requires : goal.cut_row-requires
 cut_row-requires c =
     record {
-      cells_room = c.requires.cells_room;
       i_bound = (omega (arith, c.requires.actions_bound), omega (arith, c.requires.actions_bound));
       cuttable = c.requires.cuttable;
     }
@@ -22,29 +19,21 @@ returns-then-not-cut_row c =
     let k = c.cut_row.ensures.kept (not-true _ c.if-not-cut_row.true-raw) in
     record {
       targets_after = refl;
+      bounds_room = omega arith;
       settled = settled_same k.1 k.0 refl (noting (omega (arith, c.requires.actions_bound)) c.lower.ensures);
     }
 
 pub raise-requires : goal.raise-requires
 raise-requires c =
-    let a = c.args in
     let l = c.if-from-n.true in
-    record {
-      targets_room = length-set a.targets.now (255 * a.a + a.i) a.j ∙ c.requires.targets_room;
-      flags_room = length-set a.flags.now (255 * a.a + a.i) 0 ∙ c.requires.flags_room;
-      actions_bound = omega (arith, c.requires.actions_bound, l);
-    }
-
-pub shape_of-flags-then-from-n : goal.shape_of-flags-then-from-n
-shape_of-flags-then-from-n c =
-    let a = c.args in
-    c.flags-1.given ∙ length-set a.flags.now (255 * a.a + a.i) 0
+    omega (arith, c.requires.actions_bound, l)
 
 pub returns-then-from-n : goal.returns-then-from-n
 returns-then-from-n c =
     let k = c.cut_row.ensures.changed (not-false _ c.if-not-cut_row.false-raw) in
     record {
       targets_after = refl;
+      bounds_room = omega arith;
       settled = settled_raised (omega (arith, c.requires.actions_bound)) (omega (arith, c.requires.actions_bound)) k.1 k.0 c.lower.ensures refl c.lower-2.ensures c.lower-3.ensures c.raise.ensures;
     }
 
@@ -54,6 +43,7 @@ returns-else-from-n c =
     let k = c.cut_row.ensures.changed (not-false _ c.if-not-cut_row.false-raw) in
     record {
       targets_after = refl;
+      bounds_room = omega arith;
       settled = settled_raised (omega (arith, c.requires.actions_bound)) (omega (arith, c.requires.actions_bound)) k.1 k.0 c.lower.ensures refl c.lower-2.ensures c.lower-3.ensures
           (raised_nobody _ a.i _ a.n _ a.shape.actions c.if-from-n.false);
     }

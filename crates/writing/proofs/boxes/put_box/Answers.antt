@@ -11,7 +11,6 @@ put_bounds-requires c =
     let (t, v, l) = c.requires.two_or_four in
     record {
       two_or_four = t;
-      cells_room = c.requires.cells_room;
       n_bound = (omega arith, l);
       bounded = c.requires.bounded;
       n_in_bounds = omega (arith, length-set d c.args.at state);

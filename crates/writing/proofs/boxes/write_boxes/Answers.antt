@@ -15,9 +15,6 @@ loop-k-init c =
 pub bounds-order-k : goal.bounds-order-k
 bounds-order-k c = omega arith
 
-pub overflow_cast-order : goal.overflow_cast-order
-overflow_cast-order c = omega (arith, c.type_inv.order c.loop-k.k)
-
 pub overflow_mul-shape : goal.overflow_mul-shape
 overflow_mul-shape c = omega (arith, width_few c.args.shape.width c.requires.two_or_four.0)
 
@@ -40,8 +37,6 @@ put_box-requires c =
     let (t, v, l) = c.requires.two_or_four in
     let b = c.requires.all_bounded at.k c.loop-k-test.true in
     record {
-      cells_room = c.requires.cells_room;
-      homes_room = c.requires.homes_room;
       two_or_four = (t, v, b.0);
       bounded = b.1;
       counters_in_bounds = omega (arith, rows_le at.k c.args.n w c.loop-k-test.true);

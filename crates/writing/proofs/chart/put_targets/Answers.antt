@@ -1,5 +1,5 @@
 use native.Mathlib.Omega.{arith}
-use Prim.Native.Nat.{ℕ, ◌+◌, ◌*◌}
+use Prim.Native.Nat.{ℕ, ◌+◌}
 use mathlib.Core.Path.{◌≡◌, refl, ap, ◌∙◌}
 use lib.ListN.{set, length-set}
 use Rattle.systems.specs.Lists.{collect}
@@ -21,12 +21,6 @@ overflow_add-j c = omega arith
 
 pub bounds-targets-a : goal.bounds-targets-a
 bounds-targets-a c = omega arith
-
-pub overflow_cast-j : goal.overflow_cast-j
-overflow_cast-j c = omega (arith, c.type_inv.targets (255 * c.loop-a.a + c.args.i))
-
-pub bounds-number-j : goal.bounds-number-j
-bounds-number-j c = omega (arith, c.type_inv.targets (255 * c.loop-a.a + c.args.i))
 
 pub overflow_add-out : goal.overflow_add-out
 overflow_add-out c = omega arith

@@ -1,6 +1,4 @@
 use native.Mathlib.Omega.{arith}
-use lib.ListN.{length-set}
-use mathlib.Core.Path.{◌∙◌}
 use Rattle.writing.specs.Numbers.{walked_first, walked_done}
 use Rattle.writing.proofs.numbering.number_rows.Goals as goal
 
@@ -15,15 +13,13 @@ loop-m-init c =
     let order = c.args.order.now in
     let number = c.args.number.now in (
       omega arith,
-      length-set order 0 0 ∙ c.requires.order_room,
-      length-set number 0 0 ∙ c.requires.number_room,
-      walked_first c.requires.walkable order number c.requires.order_room c.requires.number_room c.requires.unnumbered,
+      walked_first c.requires.walkable order number (omega arith) (omega arith) c.requires.unnumbered,
     )
 
 pub number_targets-c-requires : goal.number_targets-c-requires
 number_targets-c-requires c =
     let at = c.loop-m.invariant in
-    record { targets_room = c.requires.targets_room; order_room = at.1; number_room = at.2; walkable = c.requires.walkable; m_lt_n = c.loop-m-test.true; walked = at.3 }
+    record { walkable = c.requires.walkable; m_lt_n = c.loop-m-test.true; walked = at.1 }
 
 pub overflow_step-m : goal.overflow_step-m
 overflow_step-m c = omega arith
@@ -32,15 +28,9 @@ pub loop-m-smaller : goal.loop-m-smaller
 loop-m-smaller c = omega arith
 
 pub loop-m-preserved : goal.loop-m-preserved
-loop-m-preserved c = (omega arith, omega arith, omega arith, c.number_targets-c.ensures)
-
-pub shape_of-order : goal.shape_of-order
-shape_of-order c = omega arith
-
-pub shape_of-number : goal.shape_of-number
-shape_of-number c = omega arith
+loop-m-preserved c = (omega arith, c.number_targets-c.ensures)
 
 pub returns : goal.returns
 returns c =
     let at = c.loop-m in
-    walked_done c.requires.walkable at.order at.number at.c at.m (omega arith) at.invariant.3
+    walked_done c.requires.walkable at.order at.number at.c at.m (omega arith) at.invariant.1

@@ -1,7 +1,7 @@
 use native.Mathlib.Omega.{arith}
 use mathlib.Core.Path.{◌≡◌, refl}
 use mathlib.Core.Logic.{inl, inr}
-use Prim.Native.Nat.{◌+◌, ◌*◌, ◌<◌}
+use Prim.Native.Nat.{◌<◌}
 use Rattle.table_rules.specs.Arrays.{target_in}
 use Rattle.writing.specs.Numbers.{entry_in, rows_few, actions_few, walked_row, walked_old, walked_room, walked_new}
 use Rattle.writing.proofs.numbering.number_target.Goals as goal
@@ -64,7 +64,6 @@ overflow_cast-j c =
     let row = walked_row D m a c.requires.walked c.requires.m_lt_n.0 in
     let few = rows_few D in
     let some = actions_few D in
-    let byte = c.type_inv.targets (255 * a + entry_in c.args.order.now m) in
     omega arith
 
 pub bounds-number-j : goal.bounds-number-j
@@ -75,7 +74,6 @@ bounds-number-j c =
     let row = walked_row D m a c.requires.walked c.requires.m_lt_n.0 in
     let few = rows_few D in
     let some = actions_few D in
-    let byte = c.type_inv.targets (255 * a + entry_in c.args.order.now m) in
     omega arith
 
 pub returns-then-number-j-lt255 : goal.returns-then-number-j-lt255
@@ -97,8 +95,6 @@ bounds-order-c c =
     let few = rows_few D in
     let some = actions_few D in
     let j = (target_in c.args.targets.now (entry_in c.args.order.now m) a) in
-    let byte = c.type_inv.targets (255 * a + entry_in c.args.order.now m) in
-    let byte' = c.slice_known-2-1.given j in
     let l : j < 255 = let n = c.if-j.false in omega arith in
     let e : entry_in c.args.number.now j ≡ 255 = omega arith in
     let room = walked_room D m a c.requires.walked c.requires.m_lt_n.0 j c.requires.m_lt_n.1 refl l e in
@@ -113,8 +109,6 @@ overflow_cast-number c =
     let few = rows_few D in
     let some = actions_few D in
     let j = (target_in c.args.targets.now (entry_in c.args.order.now m) a) in
-    let byte = c.type_inv.targets (255 * a + entry_in c.args.order.now m) in
-    let byte' = c.slice_known-2-1.given j in
     let l : j < 255 = let n = c.if-j.false in omega arith in
     let e : entry_in c.args.number.now j ≡ 255 = omega arith in
     let room = walked_room D m a c.requires.walked c.requires.m_lt_n.0 j c.requires.m_lt_n.1 refl l e in
@@ -129,8 +123,6 @@ overflow_cast-number-2 c =
     let few = rows_few D in
     let some = actions_few D in
     let j = (target_in c.args.targets.now (entry_in c.args.order.now m) a) in
-    let byte = c.type_inv.targets (255 * a + entry_in c.args.order.now m) in
-    let byte' = c.slice_known-2-1.given j in
     let l : j < 255 = let n = c.if-j.false in omega arith in
     let e : entry_in c.args.number.now j ≡ 255 = omega arith in
     let room = walked_room D m a c.requires.walked c.requires.m_lt_n.0 j c.requires.m_lt_n.1 refl l e in
@@ -145,8 +137,6 @@ bounds-number-j-2 c =
     let few = rows_few D in
     let some = actions_few D in
     let j = (target_in c.args.targets.now (entry_in c.args.order.now m) a) in
-    let byte = c.type_inv.targets (255 * a + entry_in c.args.order.now m) in
-    let byte' = c.slice_known-2-1.given j in
     let l : j < 255 = let n = c.if-j.false in omega arith in
     let e : entry_in c.args.number.now j ≡ 255 = omega arith in
     let room = walked_room D m a c.requires.walked c.requires.m_lt_n.0 j c.requires.m_lt_n.1 refl l e in
@@ -161,8 +151,6 @@ overflow_add-result c =
     let few = rows_few D in
     let some = actions_few D in
     let j = (target_in c.args.targets.now (entry_in c.args.order.now m) a) in
-    let byte = c.type_inv.targets (255 * a + entry_in c.args.order.now m) in
-    let byte' = c.slice_known-2-1.given j in
     let l : j < 255 = let n = c.if-j.false in omega arith in
     let e : entry_in c.args.number.now j ≡ 255 = omega arith in
     let room = walked_room D m a c.requires.walked c.requires.m_lt_n.0 j c.requires.m_lt_n.1 refl l e in
@@ -177,9 +165,7 @@ returns c =
     let few = rows_few D in
     let some = actions_few D in
     let j = (target_in c.args.targets.now (entry_in c.args.order.now m) a) in
-    let byte = c.type_inv.targets (255 * a + entry_in c.args.order.now m) in
-    let byte' = c.slice_known-2-1.given j in
     let l : j < 255 = let n = c.if-j.false in omega arith in
     let e : entry_in c.args.number.now j ≡ 255 = omega arith in
     let room = walked_room D m a c.requires.walked c.requires.m_lt_n.0 j c.requires.m_lt_n.1 refl l e in
-    walked_new D m a c.requires.walked c.requires.m_lt_n.0 j c.requires.m_lt_n.1 refl l e c.requires.order_room c.requires.number_room
+    walked_new D m a c.requires.walked c.requires.m_lt_n.0 j c.requires.m_lt_n.1 refl l e (omega arith) (omega arith)
