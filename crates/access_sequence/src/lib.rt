@@ -11,7 +11,8 @@ ghost use Rattle.making_rules.specs.Making.{written_by};
 ghost use Rattle.access_rules.specs.Access.{request_checks, way_checks, way_to, answered_by};
 ghost use Rattle.access_rules.specs.Machine.{Accesses};
 
-use answers::{Reason, Refusal, demanded};
+pub use answers::Refusal;
+use answers::{Reason, demanded};
 use chart_bytes::Chart;
 use charting::make;
 use first_words::write_first_word;

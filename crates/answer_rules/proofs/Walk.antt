@@ -9,7 +9,7 @@ use Rattle.std.proofs.Math.Numerals.{add-one}
 use Rattle.std.proofs.Math.ListN.{length, take, drop, length-set}
 use Rattle.std.proofs.Math.Seq.{drop-length, length-take-le, drop-set-lt}
 use Rattle.std.proofs.lemmas.List.{take-set-le}
-use Rattle.std.specs.Option.{option_or}
+use Rattle.std.specs.Option.{option_and, option_or}
 use Rattle.std.specs.Bool.{then_some}
 use Rattle.systems.specs.System.{System, Reading, after, entry, written, earliest, first_barred, reading}
 use Rattle.answer_rules.specs.declared.Refusal.{Refusal}
@@ -24,6 +24,11 @@ unfolding noted_at
 noted_or (Some k) i b = refl
 noted_or None i true = refl
 noted_or None i false = refl
+
+-- an answer twice over: with it an edit's proof file follows a wrong body
+pub and_itself : {T : Type 0} (o : Option T) → option_and o o ≡ o
+and_itself None = refl
+and_itself (Some x) = refl
 
 pub took_barred : {X : Type 0} (sys : System X) (x : X) {o : Option X} → o ≡ None → Took sys x o x 65535 true
 unfolding after entry is_barred

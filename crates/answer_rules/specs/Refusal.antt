@@ -1,5 +1,5 @@
 -- Refusals: a reason, which has a number in document 01's table "Turned back" or in document 02, and what is returned.
-use Rattle.std.specs.Prelude.{ℕ, Result, ⊤}
+use Rattle.std.specs.Prelude.{List, ◌++◌, ℕ, Result, ⊤, codes, decimal}
 use Rattle.answer_rules.specs.declared.Reason.{Reason}
 use Rattle.answer_rules.specs.declared.Reason.TheVariants.{Header, Count, Length, Field, Label, Overlap, Start, Landing, Blocks, Room, Action, Numbering, Bars, Unparted, Block, Actions, NoSetPoint, GoRound}
 use Rattle.answer_rules.specs.declared.Refusal.{Refusal}
@@ -32,3 +32,7 @@ number_of GoRound = 22
 -- the refusal for a reason, with what is returned
 abbrev pub at : Reason → ℕ → Refusal
 at why p = record { reason = why; returned = p }
+
+-- what a refusal prints: its number and what is returned
+abbrev pub text_of : Refusal → List ℕ
+text_of why = codes "refused " ++ decimal (number_of why.reason) ++ codes " at " ++ decimal why.returned

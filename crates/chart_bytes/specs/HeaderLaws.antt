@@ -1,14 +1,16 @@
 -- The header's refusals as the code finds them, and what a header that passes says.
-use Rattle.std.specs.Prelude.{◌≡◌, refl, Bool, true, false, ◌&&◌, List, [], ◌∷◌, ℕ, ◌+◌, ◌*◌, ◌≤◌, ◌<◌, eqb, leb, length, Ok}
+use Rattle.std.specs.Prelude.{◌≡◌, refl, Bool, true, false, ◌&&◌, List, [], ◌∷◌, ℕ, ◌+◌, ◌*◌, ◌≤◌, ◌<◌, eqb, leb, length, get_or, Ok, Err}
 use Rattle.std.specs.List.{starts_with}
 use Rattle.std.proofs.Common.{sym, ap, ◌∙◌, arith, mul-le-mul_right, le-leb, leb-true, eqb-true, eq-eqb, ne_eqb}
+use Rattle.std.proofs.lemmas.Bool.{lt-leb}
 use Rattle.std.proofs.Math.Decide.{ℕ_discrete}
 use Rattle.systems.specs.Search.{run}
 use Rattle.answer_rules.specs.declared.Reason.TheVariants.{Header, Count, Length}
 use Rattle.answer_rules.specs.Refusal.{Checked, at}
 use Rattle.answer_rules.specs.Stages.{and_then, demand}
-use Rattle.answer_rules.proofs.Stages.{passed, then_fine, demand_fine, demand_by}
-use Rattle.answer_rules.proofs.Loops.{demand_yes, and_both, and_first}
+use Rattle.answer_rules.proofs.Stages.{passed, refused, then_fine, demand_fine, demand_by}
+use Rattle.answer_rules.proofs.Loops.{demand_yes, demand_no, and_both, and_first, and_second, all_stop}
+use Rattle.model.specs.Blocks.{chart_mark}
 use Rattle.model.specs.Chart.{actions_of, blocks_of, record_at}
 use Rattle.chart_bytes.specs.Header.{marked, mark_check, count_check, length_check, header_check}
 use Rattle.chart_bytes.specs.Shape.{Shaped, Counted}
@@ -40,6 +42,15 @@ mark_begins (a ∷ b ∷ []) h = absurd (omega arith)
 mark_begins (a ∷ []) h = absurd (omega arith)
 mark_begins [] h = absurd (omega arith)
 
+-- whatever the length: one byte decides, and where four are right the last does
+pub mark_wrong : (c : List ℕ) (k : ℕ) → k < 5 → (get_or c k 0 ≡ get_or chart_mark k 0 → ⊥) → false ≡ marked c
+unfolding marked
+mark_wrong c k h n = sym (all_stop (λ k. eqb (get_or c k 0) (get_or chart_mark k 0)) k 5 (ne_eqb (get_or c k 0) (get_or chart_mark k 0) n) h)
+
+pub mark_last : (c : List ℕ) → get_or c 0 0 ≡ 66 → get_or c 1 0 ≡ 67 → get_or c 2 0 ≡ 72 → get_or c 3 0 ≡ 1 → eqb (get_or c 4 0) 0 ≡ marked c
+unfolding marked run
+mark_last c p q r s = rw (p, q, r, s) refl
+
 -- a test of two parts, the second made only where the first holds
 pub both_made : {a b t : Bool} → a ≡ true → t ≡ b → t ≡ (a && b)
 both_made {b = b} h e = e ∙ sym (ap (λ (x : Bool). x && b) h)
@@ -50,6 +61,14 @@ first_made b h e = e ∙ h ∙ sym (and_first b h)
 pub mark_tested : (c : List ℕ) {t : Bool} {r : Checked} → t ≡ (leb 7 (length c) && marked c) → r ≡ demand t (at Header 0) → r ≡ mark_check c
 unfolding mark_check
 mark_tested c e h = demand_by (at Header 0) h e
+
+pub mark_short : (c : List ℕ) → length c < 7 → Err (at Header 0) ≡ mark_check c
+unfolding mark_check
+mark_short c h = demand_no (and_first (marked c) (lt-leb 7 (length c) h))
+
+pub mark_bad : (c : List ℕ) {t : Bool} → t ≡ marked c → t ≡ false → Err (at Header 0) ≡ mark_check c
+unfolding mark_check
+mark_bad c e h = demand_no (and_second (leb 7 (length c)) (sym e ∙ h))
 
 -- the counts
 pub blocks_some : (c : List ℕ) → blocks_of c < 256 → leb 1 (blocks_of c) ≡ (leb 1 (blocks_of c) && leb (blocks_of c) 255)
@@ -68,8 +87,22 @@ pub mark_good : (c : List ℕ) {t : Bool} → 7 ≤ length c → t ≡ marked c 
 unfolding mark_check
 mark_good c l e h = demand_yes (at Header 0) (and_both (le-leb 7 (length c) l) (sym e ∙ h))
 
+pub actions_none : (c : List ℕ) → actions_of c < 1 → Err (at Count 5) ≡ count_check c
+unfolding count_check
+actions_none c h =
+    refused (demand (leb 1 (blocks_of c) && leb (blocks_of c) 255) (at Count 6)) (sym (demand_no (and_first (leb (actions_of c) 8) (lt-leb 1 (actions_of c) h))))
+
+pub actions_many : (c : List ℕ) → 8 < actions_of c → Err (at Count 5) ≡ count_check c
+unfolding count_check
+actions_many c h =
+    refused (demand (leb 1 (blocks_of c) && leb (blocks_of c) 255) (at Count 6)) (sym (demand_no (and_second (leb 1 (actions_of c)) (lt-leb (actions_of c) 8 h))))
+
 actions_good : (c : List ℕ) → 1 ≤ actions_of c → actions_of c ≤ 8 → demand (leb 1 (actions_of c) && leb (actions_of c) 8) (at Count 5) ≡ Ok tt
 actions_good c h l = sym (demand_yes (at Count 5) (and_both (le-leb 1 (actions_of c) h) (le-leb (actions_of c) 8 l)))
+
+pub blocks_none : (c : List ℕ) → 1 ≤ actions_of c → actions_of c ≤ 8 → blocks_of c < 1 → Err (at Count 6) ≡ count_check c
+unfolding count_check
+blocks_none c h l n = passed (actions_good c h l) (demand_no (and_first (leb (blocks_of c) 255) (lt-leb 1 (blocks_of c) n)))
 
 pub counts_good : (c : List ℕ) → 1 ≤ actions_of c → actions_of c ≤ 8 → 1 ≤ blocks_of c → blocks_of c < 256 → Ok tt ≡ count_check c
 unfolding count_check
@@ -78,6 +111,10 @@ counts_good c h l n m = passed (actions_good c h l) (demand_yes (at Count 6) (an
 pub length_good : (c : List ℕ) → length c ≡ 7 + blocks_of c * (2 + actions_of c) → Ok tt ≡ length_check c
 unfolding length_check record_at
 length_good c e = demand_yes (at Length (length c)) (eq-eqb (length c) (7 + blocks_of c * (2 + actions_of c)) e)
+
+pub length_bad : (c : List ℕ) → (length c ≡ 7 + blocks_of c * (2 + actions_of c) → ⊥) → Err (at Length (length c)) ≡ length_check c
+unfolding length_check record_at
+length_bad c n = demand_no (ne_eqb (length c) (7 + blocks_of c * (2 + actions_of c)) n)
 
 -- what passing says
 pub both_true : (a b : Bool) → (a && b) ≡ true → (a ≡ true) × (b ≡ true)

@@ -33,8 +33,9 @@ fn check_later(c: &Chart<'_>, f: &[u8; 255], j: usize) -> Result<(), Refusal>
     requires j_bound { j < blocks_of c.now }
     ensures { result ≡ bar_check c.now j (round_class c.now 0 j) }
 {
-    let at = c.record_at(j);
+    prove!(j < c.blocks());
     let first = f[j] as usize;
+    let at = c.record_at(j);
     demanded(same_bars(c, first, j), Reason::Bars.at(at))
 }
 

@@ -9,7 +9,8 @@ ghost use Rattle.congruence_rules.specs.Euclid.{IsBezout};
 ghost use Rattle.congruence_rules.specs.Greedy.{least_count, greedy};
 ghost use Rattle.congruence.specs.Tails.{Tails};
 
-use answers::{Reason, Refusal, demanded};
+pub use answers::Refusal;
+use answers::{Reason, demanded};
 
 // The greatest common divisor of two numbers, and a factor with which the second is equal to it modulo the first (Bezout's identity).
 #[derive(Clone, Copy)]

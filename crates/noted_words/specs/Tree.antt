@@ -1,14 +1,10 @@
 -- What clauses see of notes.
-use Rattle.std.specs.Prelude.{List, ℕ, map, set}
-use Rattle.noted_words.specs.declared.Note.{Note}
+use Rattle.std.specs.Prelude.{List, ℕ, set}
 
 -- the parents and the actions of the entries
 pub record Tree : Type 0 where
   pub parents : List ℕ
   pub actions : List ℕ
-
-abbrev pub seen : List Note → Tree
-seen es = record { parents = map (λ e. e.parent) es; actions = map (λ e. e.action) es }
 
 -- once a parent and an action are noted for entry k
 abbrev pub noting : ℕ → ℕ → ℕ → Tree → Tree

@@ -10,26 +10,53 @@ ghost use Rattle.noted_words.specs.Words.{Falling, noted_word};
 
 use std::marker::Model;
 
-// What is noted for an entry.
-#[derive(Clone, Copy)]
-struct Note {
-    parent: u16,
-    action: u8,
+// The length of the word that is noted for entry k, whatever actions are noted.
+pub fn word_length(parents: &[u16], k: usize) -> usize
+    requires k_in_bounds { k < length parents.now }
+    requires falling { Falling parents.now k }
+    ensures { (bs : List ℕ) → result ≡ length (noted_word parents.now bs k) }
+{
+    let mut at = k;
+    let mut steps = 0;
+    while at > 0 {
+        at = parents[at] as usize;
+        steps += 1;
+    }
+    steps
 }
 
-/// A tree of words with N entries.
+// Writes the word that is noted for entry k, which has so many actions, from the front of a buffer: its last action first.
+pub fn write_word(parents: &[u16], actions: &[u8], k: usize, count: usize, out: &mut [u8])
+    requires k_in_bounds { k < length parents.now }
+    requires actions_len { length actions.now ≡ length parents.now }
+    requires falling { Falling parents.now k }
+    requires count_value { count ≡ length (noted_word parents.now actions.now k) }
+    requires count_in_bounds { count ≤ length out.old }
+    ensures { out.new ≡ overwrite (noted_word parents.now actions.now k) out.old }
+{
+    let mut at = k;
+    let mut left = count;
+    while at > 0 {
+        left -= 1;
+        out[left] = actions[at];
+        at = parents[at] as usize;
+    }
+}
+
+/// A tree of words with N entries: of each its parent and its action.
 #[derive(Drop)]
 pub struct Notes<const N: usize> {
-    entries: [Note; N],
+    parents: [u16; N],
+    actions: [u8; N],
 }
 
 // Clauses see the parents and the actions, each as a list.
 impl<const N: usize> Model for Notes<N> {
-    ghost use Rattle.noted_words.specs.Tree.{Tree, seen};
+    ghost use Rattle.noted_words.specs.Tree.{Tree};
 
     ghost Value = { Tree };
 
-    ghost view = { λ n. seen n.entries };
+    ghost view = { λ n. record { parents = n.parents; actions = n.actions } };
 }
 
 impl<const N: usize> Notes<N> {
@@ -37,12 +64,9 @@ impl<const N: usize> Notes<N> {
     pub fn new() -> Self
         ensures { result ≡ record { parents = replicate N 0; actions = replicate N 0 } }
     {
-        let nothing = Note {
-            parent: 0,
-            action: 0,
-        };
         Notes {
-            entries: [nothing; N],
+            parents: [0; N],
+            actions: [0; N],
         }
     }
 
@@ -52,7 +76,8 @@ impl<const N: usize> Notes<N> {
         ensures noted { self.new ≡ noting k parent action self.old }
         ensures room { (length self.old.parents ≡ N) × (length self.old.actions ≡ N) }
     {
-        self.entries[k] = Note { parent, action };
+        self.parents[k] = parent;
+        self.actions[k] = action;
     }
 
     /// The length of the word that is noted for entry k, whatever actions are noted.
@@ -61,13 +86,7 @@ impl<const N: usize> Notes<N> {
         requires falling { Falling self.now.parents k }
         ensures { (bs : List ℕ) → result ≡ length (noted_word self.now.parents bs k) }
     {
-        let mut at = k;
-        let mut steps = 0;
-        while at > 0 {
-            at = self.entries[at].parent as usize;
-            steps += 1;
-        }
-        steps
+        word_length(&self.parents, k)
     }
 
     /// Writes the word that is noted for entry k, which has so many actions, from the front of a buffer: its last action first.
@@ -78,12 +97,6 @@ impl<const N: usize> Notes<N> {
         requires count_in_bounds { count ≤ length out.old }
         ensures { out.new ≡ overwrite (noted_word self.now.parents self.now.actions k) out.old }
     {
-        let mut at = k;
-        let mut left = count;
-        while at > 0 {
-            left -= 1;
-            out[left] = self.entries[at].action;
-            at = self.entries[at].parent as usize;
-        }
+        write_word(&self.parents, &self.actions, k, count, out);
     }
 }

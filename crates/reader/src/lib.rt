@@ -31,11 +31,12 @@ pub fn open<'a>(chart: &'a [u8]) -> Result<Reader<'a>, Refusal>
 
 impl<'a> Reader<'a> {
     ghost use Rattle.std.specs.Prelude.{◌≡◌};
-    ghost use Rattle.reader_rules.specs.Reading.{step_at};
+    ghost use Rattle.reader_rules.specs.Reading.{step_at, after};
 
     /// What the reader hands out next, or nothing where none is left. It does not move.
     pub fn peek(&self) -> Option<Block>
-        ensures { result ≡ (step_at self.now.chart.now self.now.next).block }
+        ensures handed { result ≡ (step_at self.now.chart.now self.now.next).block }
+        ensures next { (step_at self.now.chart.now self.now.next).next ≡ after self.now.next result }
     {
         block_of(self.chart, self.next)
     }

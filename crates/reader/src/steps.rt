@@ -1,7 +1,7 @@
 // The work of a reader, on the bytes and the number of the next block.
 ghost use Rattle.std.specs.Prelude.{◌≡◌, ◌<◌};
 ghost use Rattle.model.specs.Chart.{blocks_of};
-ghost use Rattle.reader_rules.specs.Reading.{targets_of, block_at, step_at, opening_of};
+ghost use Rattle.reader_rules.specs.Reading.{targets_of, block_at, step_at, after, opening_of};
 
 use answers::Refusal;
 use chart_bytes::Chart;
@@ -31,9 +31,10 @@ fn block_at(c: &Chart<'_>, i: usize) -> Block
 }
 
 /// What a reader over these bytes hands out where block `next` is next: for callers that hold the bytes and a number. Over bytes whose header is wrong, and past
-/// the last block, nothing.
+/// the last block, nothing. Where a block is handed out, the one after it is next, and else `next` stays.
 pub fn block_of(chart: &[u8], next: usize) -> Option<Block>
-    ensures { result ≡ (step_at chart.now next).block }
+    ensures handed { result ≡ (step_at chart.now next).block }
+    ensures next { (step_at chart.now next).next ≡ after next result }
 {
     let Ok(chart) = Chart::new(chart) else {
         return None;

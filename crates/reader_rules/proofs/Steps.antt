@@ -1,5 +1,5 @@
 -- Laws of what is handed out, as the code finds it.
-use Rattle.std.specs.Prelude.{◌≡◌, refl, Bool, true, false, ◌&&◌, List, [], ◌∷◌, ℕ, ◌+◌, ◌≤◌, ◌<◌, ltb, length, get_or, set, Some, None, Ok, Err}
+use Rattle.std.specs.Prelude.{◌≡◌, refl, Bool, true, false, ◌&&◌, List, [], ◌∷◌, ℕ, ◌+◌, ◌≤◌, ◌<◌, ltb, length, get_or, set, Option, Some, None, Ok, Err}
 use Rattle.std.proofs.Common.{sym, ap, ◌∙◌, ⊎_elim, arith, eq-or-lt_of_le, length-set, ext_get_or, get_or-set_same, get_or-set_other, lt-ltb, le-ltb, ltb-true}
 use Rattle.std.proofs.Math.Decide.{dec_le}
 use Rattle.systems.specs.Lists.{collect}
@@ -11,7 +11,7 @@ use Rattle.model.specs.Chart.{blocks_of, label_of}
 use Rattle.chart_bytes.specs.Header.{header_check}
 use Rattle.chart_bytes.specs.HeaderLaws.{header_passed}
 use Rattle.reader_rules.specs.declared.Block.{Block}
-use Rattle.reader_rules.specs.Reading.{is_fine, has_block, eight_targets, targets_of, block_at, Step, block_step, none_step, step_at}
+use Rattle.reader_rules.specs.Reading.{is_fine, has_block, eight_targets, targets_of, block_at, Step, block_step, none_step, step_at, after}
 
 pub length_eight : (f : ℕ → ℕ) (n : ℕ) → length (eight_targets f n) ≡ 8
 unfolding eight_targets
@@ -132,3 +132,9 @@ stays c i false e q = ap (λ (s : Step). s.next) (chosen c i false e)
 
 pub step_stays : (c : List ℕ) (i : ℕ) → (step_at c i).block ≡ None → (step_at c i).next ≡ i
 step_stays c i = stays c i (has_block c i) refl
+
+-- so what is handed out tells which block is next
+pub next_told : (c : List ℕ) (i : ℕ) {o : Option Block} → o ≡ (step_at c i).block → (step_at c i).next ≡ after i o
+unfolding after
+next_told c i {o = Some b} e = (step_moves c i (sym e)).0
+next_told c i {o = None} e = step_stays c i (sym e)

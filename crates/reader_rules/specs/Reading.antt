@@ -47,6 +47,11 @@ none_step i = record { block = None; next = i }
 unfoldable pub step_at : List ℕ → ℕ → Step
 step_at c i = elim (has_block c i) [ true ↦ block_step c i | false ↦ none_step i ]
 
+-- The number of the block that is next after a call that handed this out where block i was next.
+unfoldable pub after : ℕ → Option Block → ℕ
+after i (Some b) = i + 1
+after i None = i
+
 -- What opening a reader over bytes c tells: the refusal of the chart's check, or the number of the block that is next, the first.
 unfoldable pub opening_of : List ℕ → Result ℕ Refusal
 opening_of c = and_then (chart_check c) (Ok 0)

@@ -7,7 +7,8 @@ ghost use Rattle.answer_rules.specs.Refusal.{at};
 ghost use Rattle.pair_search.specs.Queue.{Comparable};
 ghost use Rattle.separation_rules.specs.Separation.{capped, charts_check, pair_check, bytes_needed, evidence, separated_by, left_by};
 
-use answers::{Reason, Refusal, demanded};
+pub use answers::Refusal;
+use answers::{Reason, demanded};
 use chart_bytes::Chart;
 use pair_search::{Charts, Search};
 

@@ -7,7 +7,8 @@ ghost use Rattle.integers.specs.Range.{Within};
 ghost use Rattle.set_point_rules.specs.Euclid.{quotient};
 ghost use Rattle.set_point_rules.specs.SetPoint.{factor_allowed, allowed, solution, set_point};
 
-use answers::{Reason, Refusal, demanded};
+pub use answers::Refusal;
+use answers::{Reason, demanded};
 use integers::Range;
 use machine_integers::division::inverse_range;
 use machine_integers::ranges::near_zero;

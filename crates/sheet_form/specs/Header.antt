@@ -1,12 +1,14 @@
 -- How the code's tests of a header meet the checks 1 to 3.
-use Rattle.std.specs.Prelude.{◌≡◌, refl, Bool, true, false, ◌&&◌, List, [], ◌∷◌, ℕ, ◌≤◌, eqb, leb, length, take, nat_eq}
+use Rattle.std.specs.Prelude.{◌≡◌, refl, Bool, true, false, ◌&&◌, List, [], ◌∷◌, ℕ, ◌≤◌, ◌<◌, eqb, leb, length, take, nat_eq, Err}
 use Rattle.std.specs.List.{starts_with}
-use Rattle.std.proofs.Common.{sym, subst, ap, ◌∙◌}
+use Rattle.std.proofs.Common.{sym, subst, ap, le-leb, ◌∙◌}
+use Rattle.std.proofs.lemmas.Bool.{lt-leb}
 use Rattle.std.proofs.lemmas.Cmp.{nat_list_eq_equiv}
 use lib.Pointwise.{pointwise}
 use Rattle.answer_rules.specs.declared.Reason.TheVariants.{Header, Length}
 use Rattle.answer_rules.specs.Refusal.{Checked, at}
 use Rattle.answer_rules.specs.Stages.{and_then, demand}
+use Rattle.answer_rules.proofs.Loops.{demand_no}
 use Rattle.sheet_bytes.specs.declared.Shape.{Shape}
 use Rattle.sheet_rules.specs.Layout.{sheet_mark, version_of, counters_of, actions_of, regions_of, bound_size, place_by, region_place}
 use Rattle.sheet_rules.proofs.Shape.{two_or_four, width_few}
@@ -40,6 +42,17 @@ header_stages s h =
     h
     ∙ ap (and_then (demand (leb 9 (length s)) (at Header 0))) (both_demanded (same_bytes (take 3 s) sheet_mark) (from_to 1 2 (version_of s)) (at Header 0))
     ∙ both_demanded (leb 9 (length s)) (same_bytes (take 3 s) sheet_mark && from_to 1 2 (version_of s)) (at Header 0)
+
+pub header_short : (s : List ℕ) → length s < 9 → Err (at Header 0) ≡ check_header s
+unfolding check_header
+header_short s h = demand_no (ap (λ (t : Bool). t && (same_bytes (take 3 s) sheet_mark && from_to 1 2 (version_of s))) (lt-leb 9 (length s) h))
+
+-- a count against its two limits
+pub from_low : (m n x : ℕ) → m ≤ x → leb x n ≡ from_to m n x
+from_low m n x h = rw (le-leb m x h) refl
+
+pub from_below : (m n x : ℕ) → x < m → false ≡ from_to m n x
+from_below m n x h = rw (lt-leb m x h) refl
 
 -- the length that the shape gives
 pub length_read : (s : List ℕ) {shape : Shape} (k : ℕ) {r : Checked} → shape ≡ shape_of s → k ≡ place_by shape.width shape.counters shape.actions shape.regions

@@ -51,6 +51,14 @@ pub factor_far : (p : List ℕ) {t : Bool} → t ≡ near 100 (factor_of p) → 
 unfolding factor_right
 factor_far p h e k = rw (ne_eqb (kind_of p) 0 e, factor_right, sym h ∙ k) k
 
+pub factor_zero : (p : List ℕ) {t : Bool} → t ≡ near 0 (factor_of p) → (kind_of p ≡ 0 → ⊥) → t ≡ true → false ≡ factor_right p
+unfolding factor_right
+factor_zero p h e k = rw (ne_eqb (kind_of p) 0 e, factor_right, sym h ∙ k) (and_false (near 100 (factor_of p)))
+  where
+    and_false : (b : Bool) → false ≡ (b && false)
+    and_false true = refl
+    and_false false = refl
+
 pub factor_carry : (p : List ℕ) {t u : Bool} → t ≡ near 100 (factor_of p) → (kind_of p ≡ 0 → ⊥) → t ≡ true → u ≡ near 0 (factor_of p) → not u ≡ factor_right p
 unfolding factor_right
 factor_carry p h e k l = rw (ne_eqb (kind_of p) 0 e, factor_right, sym h ∙ k) (ap not l)

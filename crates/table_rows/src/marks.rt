@@ -1,10 +1,11 @@
 // Flags of actions, and stored targets.
-ghost use Rattle.std.specs.Prelude.{◌+◌, ◌<◌, ◌≤◌};
+ghost use Rattle.std.specs.Prelude.{◌+◌, ◌<◌, ◌≤◌, length};
 ghost use Rattle.table_rules.specs.Marks.{RaisedAt, RaisedTo, RowRaised, AnyRaised, LastRaised};
 
 // Raises the flags of all rows below n whose target for one action is i. The targets and flags for that action start at a place.
-pub fn raise_at(targets: &[u8; 2040], flags: &mut [u8; 2040], at: usize, i: u8, n: usize)
-    requires n_in_bounds { at + n ≤ 2040 }
+pub fn raise_at(targets: &[u8], flags: &mut [u8], at: usize, i: u8, n: usize)
+    requires n_in_bounds { at + n ≤ length targets.now }
+    requires n_in_bounds_2 { at + n ≤ length flags.old }
     ensures { RaisedAt targets.now at i n flags.old flags.new }
 {
     for k in 0..n {

@@ -1,13 +1,13 @@
 // Reading and storing what the arrays have of a row.
-ghost use Rattle.std.specs.Prelude.{◌≡◌, ◌+◌, ◌<◌, ◌≤◌};
+ghost use Rattle.std.specs.Prelude.{◌≡◌, ◌+◌, ◌<◌, ◌≤◌, length};
 ghost use Rattle.table_rules.specs.Arrays.{range_in, ranges_in, config_in, box_in, put_range, put_ranges, put_values, put_home};
 
 use integers::Range;
 use sheet_bytes::{Config, Ranges, RegionBox, Values};
 
 // The range of which the low bound stands at a place.
-pub fn range_in(cells: &[i64; 2295], at: usize) -> Range
-    requires { at + 2 ≤ 2295 }
+pub fn range_in(cells: &[i64], at: usize) -> Range
+    requires { at + 2 ≤ length cells.now }
     ensures { result ≡ range_in cells.now at }
 {
     Range {
@@ -57,8 +57,8 @@ pub fn config_in(cells: &[i64; 2295], homes: &[u8; 510], k: usize) -> Config
     }
 }
 
-pub fn put_range(cells: &mut [i64; 2295], at: usize, r: Range)
-    requires { at + 2 ≤ 2295 }
+pub fn put_range(cells: &mut [i64], at: usize, r: Range)
+    requires { at + 2 ≤ length cells.old }
     ensures { cells.new ≡ put_range cells.old at r }
 {
     cells[at] = r.low;

@@ -1,10 +1,10 @@
 // The lowest row that leads to a row, and the lowest that may have a flag up: nobody need look below them.
-ghost use Rattle.std.specs.Prelude.{◌<◌};
+ghost use Rattle.std.specs.Prelude.{◌<◌, length};
 ghost use Rattle.table_rules.specs.Sources.{LoweredAt, Begun};
 
 // Lowers the number at a place to k, if it is above that.
-pub fn lower(bounds: &mut [usize; 512], at: usize, k: usize)
-    requires { at < 512 }
+pub fn lower(bounds: &mut [usize], at: usize, k: usize)
+    requires { at < length bounds.old }
     ensures { LoweredAt bounds.old bounds.new at k }
 {
     if bounds[at] > k {

@@ -9,6 +9,11 @@ same_bars-requires c =
     let b = holds_ordered c.args.c.now c.args.f.now 0 c.requires.holds c.args.j c.requires.j_bound in
     record { i_bound = (omega arith, c.requires.j_bound) }
 
+pub record_at-at-requires : goal.record_at-at-requires
+record_at-at-requires c =
+    let b = holds_ordered c.args.c.now c.args.f.now 0 c.requires.holds c.args.j c.requires.j_bound in
+    omega arith
+
 pub returns : goal.returns
 returns c =
     let h = c.requires.j_bound in

@@ -3,7 +3,7 @@ use Prim.Native.Nat.{ℕ}
 use mathlib.Core.Path.{ap, ◌∙◌}
 use Rattle.depth_bound.specs.Depth.{exact_depth}
 use Rattle.sheet_bytes.specs.Three.{shape_is}
-use Rattle.table_passes.specs.Steps.{stable_many}
+use Rattle.table_passes.specs.Steps.{stable_many, stable_now}
 use Rattle.table_passes.specs.Passes.{sweeping_first, sweeping_exact, sweeping_sure, sweeping_many, sweeping_less, sweeping_on}
 use Rattle.minimize.proofs.table.stabilize.Goals as goal
 
@@ -34,3 +34,7 @@ loop-last-preserved c =
     let Q = c.loop-last.invariant in
     let (small, G) = c.requires.m_bound in
     sweeping_on R Q (sweeping_sure R Q c.sure_depth-before.ensures) (c.sweep.ensures.rows _ c.in_ok-rows.was) G (λ l. omega (arith, l)) c.depth_after-depth.ensures
+
+pub returns : goal.returns
+returns c =
+    stable_now c.loop-last.invariant.state (rw (shape_is c.shape-shape.ensures.read) at c.last_raised.ensures) c.in_default.is

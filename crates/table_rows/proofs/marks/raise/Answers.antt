@@ -19,7 +19,7 @@ pub overflow_sub-n : goal.overflow_sub-n
 overflow_sub-n c = omega arith
 
 pub raise_at-requires : goal.raise_at-requires
-raise_at-requires c = omega arith
+raise_at-requires c = record { n_in_bounds = omega (arith, c.loop-b.invariant.1.same_length); n_in_bounds_2 = omega (arith, c.loop-b.invariant.1.same_length) }
 
 pub overflow_step-b : goal.overflow_step-b
 overflow_step-b c = omega arith

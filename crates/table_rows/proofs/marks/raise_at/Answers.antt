@@ -48,5 +48,8 @@ loop-k-preserved c =
           (elim c.if-targets-at.branch [ then-targets-at w ↦ w.new-is ∙ raised_up t i old w.if-targets-at.true | else-targets-at w ↦ w.new-is ∙ S.behind (c.args.at + at.k) (omega arith) ∙ raised_left t i old w.if-targets-at.false ]),
     )
 
+pub shape_of-flags : goal.shape_of-flags
+shape_of-flags c = c.loop-k.invariant.1.same_length
+
 pub returns : goal.returns
 returns c = subst (StoredFrom _ _ _ c.args.at) (omega arith) c.loop-k.invariant.1

@@ -1,8 +1,0 @@
-use Rattle.noted_words.specs.Writing.{Writing}
-use Rattle.noted_words.proofs.Notes.write_word.Given as goal
-
-abbrev pub invariant-loop-at : goal.invariant-loop-at
-invariant-loop-at g l = Writing l.self.parents l.self.actions l.k l.initial.out l.at l.left l.out
-
-abbrev pub decreases-loop-at : goal.decreases-loop-at
-decreases-loop-at g l = l.at
